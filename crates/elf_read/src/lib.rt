@@ -1,0 +1,4 @@
+//! Kernels as ELF files.
+#![tactic(auto)]
+
+pub mod parts;

@@ -1,0 +1,21 @@
+//! The numbers, names and small types that all crates of the monitor share.
+//!
+//! - [`places`]: guest places and addresses, the numbers of vCPUs, views and groups, spans of places.
+//! - [`machine`]: privilege modes, kinds of access, access widths, and how a run ends.
+//! - [`regs`]: the 32 integer registers, and sign extension.
+//! - [`name`]: the name of an application.
+//! - [`pair`]: the two halfwords of a view's pages that a lane holds.
+//! - [`shared`]: bytes that several owners share and nobody changes, as the text of an image.
+//! - [`memory`]: want of memory, the one free answer.
+//!
+//! A place, an address or a number is a type of its own in code, and the plain number in contracts. Nothing
+//! here knows of a guest, an image or a view. Every other crate of the monitor stands on this one.
+#![tactic(auto)]
+
+pub mod machine;
+pub mod memory;
+pub mod name;
+pub mod pair;
+pub mod places;
+pub mod regs;
+pub mod shared;
