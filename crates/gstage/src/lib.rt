@@ -1,0 +1,17 @@
+//! The second stage of translation: from a guest place to what lies there.
+//!
+//! - [`stage`]: what a stage answers, the trait that all stages meet, and the stage that compares spans.
+//! - [`table`]: the Sv39x4 table of a view, and the look-up in it.
+//! - [`walk`]: the Sv39x4 walk of a list of entries.
+//!
+//! One clause holds for every stage: a place is `Text` exactly in kernel text, `Outside` exactly outside RAM, and else
+//! `Ram`. The walk of a table's entries maps text page n of view v to host page 16384 + 1024 v + n with X and U alone,
+//! RAM page n outside text to host page n with R, W, X and U, and nothing else; a look-up answers by that walk. Below
+//! stands `fc_numbers`, and `guest_ram` for the tie of a stage to a memory; the instructions and the board stand above.
+#![tactic(auto)]
+
+pub mod stage;
+pub mod table;
+#[cfg(test)]
+mod tests;
+pub mod walk;

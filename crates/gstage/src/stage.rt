@@ -1,0 +1,57 @@
+//! What a second stage answers, and the stage that compares spans.
+
+ghost use Rattle.std.specs.Prelude.{◌≡◌, ℕ};
+ghost use Rattle.fc_numbers.specs.declared.places.Span.{Span};
+ghost use Rattle.gstage.specs.Stage.{placed};
+
+use fc_numbers::machine::Access;
+use fc_numbers::places::{Gpa, Span};
+
+/// Where a guest place lies.
+#[derive(Debug, Clone, Copy, PartialEq, Eq)]
+pub enum Placed {
+    /// In RAM outside kernel text.
+    Ram,
+    /// In kernel text.
+    Text,
+    /// Outside RAM.
+    Outside,
+}
+
+/// A second stage of translation for one kernel text and one RAM.
+pub trait SecondStage {
+    /// The places of kernel text.
+    ghost text: { Self → Span };
+
+    /// The places of RAM.
+    ghost ram: { Self → Span };
+
+    /// Where the place lies for this access.
+    fn place(&self, at: Gpa, access: Access) -> Placed
+        ensures { result ≡ placed (text self.now) (ram self.now) at };
+}
+
+/// The stage that compares a place with the two spans.
+#[derive(Debug, Clone, Copy, PartialEq, Eq)]
+pub struct Flat {
+    /// The places of kernel text.
+    pub text: Span,
+    /// The places of RAM.
+    pub ram: Span,
+}
+
+impl SecondStage for Flat {
+    ghost text = { λ s. s.text };
+
+    ghost ram = { λ s. s.ram };
+
+    fn place(&self, at: Gpa, access: Access) -> Placed {
+        if self.text.contains(at) {
+            Placed::Text
+        } else if self.ram.contains(at) {
+            Placed::Ram
+        } else {
+            Placed::Outside
+        }
+    }
+}

@@ -1,0 +1,4 @@
+pub mod Known
+pub mod Apart
+pub mod CompressedApart
+pub mod Ranges

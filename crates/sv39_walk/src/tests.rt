@@ -1,0 +1,181 @@
+//! Walks over tables made by hand.
+
+ghost use Rattle.std.specs.Prelude.{◌≡◌, IfOk, length};
+
+use super::*;
+use fc_numbers::memory::NoMemory;
+use fc_numbers::places::{RAM_START, Span};
+use std::alloc::Global;
+use std::test::Fail;
+
+const V: u64 = 0x01;
+
+const R: u64 = 0x02;
+
+const W: u64 = 0x04;
+
+const X: u64 = 0x08;
+
+const U: u64 = 0x10;
+
+const G: u64 = 0x20;
+
+const A: u64 = 0x40;
+
+const D: u64 = 0x80;
+
+/// Memory of five pages: the tables of levels 2, 1 and 0, the kernel's text, and one page more.
+const SIZE: u64 = 5 * PAGE;
+
+const TEXT: u64 = RAM_START + 3 * PAGE;
+
+/// satp of MODE 8 with the page number of the level 2 table.
+const SATP: u64 = 0x8000_0000_0008_0000;
+
+/// Entry 1 at level 2, entry 2 at level 1, entry 3 at level 0.
+const VA: u64 = 0x4040_3123;
+
+/// Pointers to the pages of memory.
+const TO_LEVEL_1: u64 = 0x8_0001 << 10 | V;
+
+const TO_LEVEL_0: u64 = 0x8_0002 << 10 | V;
+
+const TO_TEXT: u64 = 0x8_0003 << 10 | V;
+
+const TO_PAST_END: u64 = 0x8_0005 << 10 | V;
+
+/// Pages of 4 KiB, 2 MiB and 1 GiB, and the place of `VA` in each.
+const PAGES: [(u64, Walked); 3] = [
+    (0x1_2345 << 10, Walked::At(Gpa(0x1234_5123))),
+    (0x1_2200 << 10, Walked::At(Gpa(0x1220_3123))),
+    (0x8_0000 << 10, Walked::At(Gpa(0x8040_3123))),
+];
+
+fn empty_memory(alloc: Global) -> Result<GuestRam, NoMemory>
+    ensures { IfOk result (λ ram. length ram.bytes ≡ 20480) }
+{
+    let text = Span {
+        start: Gpa(TEXT),
+        end: Gpa(TEXT + PAGE),
+    };
+    GuestRam::new(alloc, SIZE, text)
+}
+
+/// Memory in which the walk of `VA` comes to `pte` at the level.
+fn tables(alloc: Global, level: u64, pte: u64) -> Result<GuestRam, NoMemory> {
+    let mut ram = empty_memory(alloc)?;
+    let at_level_2 = if level == 2 { pte } else { TO_LEVEL_1 };
+    let at_level_1 = if level == 1 { pte } else { TO_LEVEL_0 };
+    ram.place(Gpa(RAM_START + 8), &at_level_2.to_le_bytes());
+    ram.place(Gpa(RAM_START + PAGE + 16), &at_level_1.to_le_bytes());
+    ram.place(Gpa(RAM_START + 2 * PAGE + 24), &pte.to_le_bytes());
+    Ok(ram)
+}
+
+#[test]
+fn leaf_maps_or_faults_by_its_bits_alike_at_every_level(rt: HostRuntime) -> Result<(), Fail> {
+    use Access::{Fetch, Load, Store};
+    use Mode::{Vs, Vu};
+    for (bits, mode, sum, mxr, access, maps) in [
+        (V | R | A, Vs, false, false, Load, true),
+        (V | R | W | A | D, Vs, false, false, Store, true),
+        (V | X | A, Vs, false, false, Fetch, true),
+        (V | R | A | G | 0x300, Vs, false, false, Load, true),
+        (R | W | X | A | D, Vs, false, false, Load, false),
+        (V | W | A | D, Vs, false, false, Store, false),
+        (V | W | X | A | D, Vs, false, false, Fetch, false),
+        (V | R | A | 1 << 54, Vs, false, false, Load, false),
+        (V | R | A | 1 << 63, Vs, false, false, Load, false),
+        (V | R | W | D, Vs, false, false, Load, false),
+        (V | X | D, Vs, false, false, Fetch, false),
+        (V | R | W | A, Vs, false, false, Load, true),
+        (V | R | W | A, Vs, false, false, Store, false),
+        (V | R | A | D, Vs, false, false, Store, false),
+        (V | R | W | A | D, Vs, false, false, Fetch, false),
+        (V | X | A, Vs, false, false, Load, false),
+        (V | X | A, Vs, false, true, Load, true),
+        (V | X | A | D, Vs, false, true, Store, false),
+        (V | R | A, Vu, true, false, Load, false),
+        (V | R | W | A | D, Vu, true, false, Store, false),
+        (V | X | A, Vu, true, true, Fetch, false),
+        (V | R | A | U, Vu, false, false, Load, true),
+        (V | R | W | A | D | U, Vu, false, false, Store, true),
+        (V | X | A | U, Vu, false, false, Fetch, true),
+        (V | X | A | U, Vu, false, true, Load, true),
+        (V | R | A | U, Vs, false, false, Load, false),
+        (V | R | A | U, Vs, true, false, Load, true),
+        (V | R | W | A | D | U, Vs, false, false, Store, false),
+        (V | R | W | A | D | U, Vs, true, false, Store, true),
+        (V | X | A | U, Vs, true, true, Fetch, false),
+    ] {
+        for (level, (page, place)) in [(0, PAGES[0]), (1, PAGES[1]), (2, PAGES[2])] {
+            let ram = tables(rt.alloc(), level, page | bits)?;
+            let want = if maps { place } else { Walked::PageFault };
+            let got = walk(&ram, SATP, mode, sum, mxr, access, Va(VA));
+            assert_eq!(rt; got, want, "bits {bits:#x} at level {level} for {access:?}");
+        }
+    }
+    Ok(())
+}
+
+#[test]
+fn pointer_and_superpage_fault_where_their_level_forbids_them(rt: HostRuntime) -> Result<(), Fail> {
+    for (level, pte, want) in [
+        (0, TO_LEVEL_0, Walked::PageFault),
+        (1, TO_LEVEL_0 | U, Walked::PageFault),
+        (1, TO_LEVEL_0 | A, Walked::PageFault),
+        (1, TO_LEVEL_0 | D, Walked::PageFault),
+        (2, TO_LEVEL_1 | U, Walked::PageFault),
+        (2, TO_LEVEL_1 | A, Walked::PageFault),
+        (2, TO_LEVEL_1 | D, Walked::PageFault),
+        (1, TO_TEXT, Walked::TableInText),
+        (2, TO_TEXT, Walked::TableInText),
+        (1, TO_PAST_END, Walked::AccessFault),
+        (2, TO_PAST_END, Walked::AccessFault),
+        (1, 0x1_2201 << 10 | V | R | A, Walked::PageFault),
+        (1, 0x1_2300 << 10 | V | R | A, Walked::PageFault),
+        (2, 0x8_0001 << 10 | V | R | A, Walked::PageFault),
+        (2, 0xa_0000 << 10 | V | R | A, Walked::PageFault),
+    ] {
+        let ram = tables(rt.alloc(), level, pte)?;
+        let got = walk(&ram, SATP, Mode::Vs, false, false, Access::Load, Va(VA));
+        assert_eq!(rt; got, want, "entry {pte:#x} at level {level}");
+    }
+    Ok(())
+}
+
+#[test]
+fn root_table_and_sign_of_the_address_decide_first(rt: HostRuntime) -> Result<(), Fail> {
+    let leaf: u64 = 0x8_0000 << 10 | V | R | A;
+    let mut ram = empty_memory(rt.alloc())?;
+    ram.place(Gpa(RAM_START), &leaf.to_le_bytes());
+    ram.place(Gpa(RAM_START + 8 * 0x100), &leaf.to_le_bytes());
+    ram.place(Gpa(RAM_START + SIZE - 8), &leaf.to_le_bytes());
+    for (satp, va, want) in [
+        (SATP, 0x123, Walked::At(Gpa(0x8000_0123))),
+        (SATP, 0xffff_ffc0_0000_0123, Walked::At(Gpa(0x8000_0123))),
+        (SATP, 0x0000_0040_0000_0123, Walked::PageFault),
+        (SATP, 0xffff_ff80_0000_0123, Walked::PageFault),
+        (SATP, 0x8000_0000_0000_0123, Walked::PageFault),
+        (SATP, 0xffff_ffff_ffff_f123, Walked::PageFault),
+        (SATP | 0xffff << 44, 0x123, Walked::At(Gpa(0x8000_0123))),
+        (
+            SATP + 4,
+            0xffff_ffff_ffff_f123,
+            Walked::At(Gpa(0xbfff_f123)),
+        ),
+        (SATP + 5, 0x123, Walked::AccessFault),
+        (SATP - 1, 0xffff_ffff_ffff_f123, Walked::AccessFault),
+        (SATP + 3, 0x123, Walked::TableInText),
+        (0x8_0003, 0x123, Walked::At(Gpa(0x123))),
+        (
+            0x8_0000,
+            0x8000_0000_0000_0123,
+            Walked::At(Gpa(0x8000_0000_0000_0123)),
+        ),
+    ] {
+        let got = walk(&ram, satp, Mode::Vs, false, false, Access::Load, Va(va));
+        assert_eq!(rt; got, want, "satp {satp:#x} at {va:#x}");
+    }
+    Ok(())
+}
