@@ -1,0 +1,4 @@
+pub mod FunctionList
+pub mod Kernels
+pub mod Placing
+pub mod TableLemmas

@@ -1,0 +1,5 @@
+pub mod Elf
+pub mod Fields
+pub mod Kernel
+pub mod Starts
+pub mod Steps

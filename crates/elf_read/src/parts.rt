@@ -1,5 +1,6 @@
 //! What an image file says of a kernel, and why an ELF file says nothing.
 
+use fc_numbers::memory::NoMemory;
 use fc_numbers::shared::SharedBytes;
 use sqlite_items::Items;
 
@@ -37,4 +38,15 @@ pub enum ElfFault {
     TooManyFunctions,
     EntryOutside,
     NoMemory,
+}
+
+impl From<NoMemory> for ElfFault {
+    ghost use Rattle.std.specs.Prelude.{◌≡◌};
+    ghost use Rattle.elf_read.specs.declared.parts.ElfFault.TheVariants.{NoMemory as memory};
+
+    ghost from_gives = { λ _ fault. fault ≡ memory };
+
+    fn from(_refused: NoMemory) -> ElfFault {
+        ElfFault::NoMemory
+    }
 }

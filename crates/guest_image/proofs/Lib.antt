@@ -1,0 +1,4 @@
+pub mod Accepting
+pub mod ElfImages
+pub mod Images
+pub mod Setups

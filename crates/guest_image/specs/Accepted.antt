@@ -1,5 +1,5 @@
 -- What holds of every image and setup that was accepted.
-use Rattle.std.specs.Prelude.{◌≡◌, ℕ, ◌+◌, ◌*◌, ◌%◌, ◌<◌, ◌≤◌, Bool, true, ◌||◌, nat_le, List, [], ◌∷◌, length, map}
+use Rattle.std.specs.Prelude.{◌≡◌, ℕ, ◌+◌, ◌*◌, ◌%◌, ◌<◌, ◌≤◌, true, ◌||◌, nat_le, List, [], ◌∷◌, length, map}
 use Rattle.fc_numbers.specs.declared.places.TheConstants.{RAM_START, RAM_MOST, PAGE}
 use Rattle.elf_read.specs.declared.parts.Function.{Function}
 use Rattle.guest_image.specs.declared.image.Image.{Image}

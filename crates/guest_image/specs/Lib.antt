@@ -1,1 +1,9 @@
 pub mod Accepted
+pub mod Members
+pub mod Plain
+pub mod Kernel
+pub mod Digest
+pub mod ImageFile
+pub mod Asked
+pub mod Limits
+pub mod Faults

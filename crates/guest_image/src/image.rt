@@ -1,6 +1,7 @@
 //! The image of a kernel.
 
 use elf_read::parts::{ElfFault, Function};
+use fc_numbers::memory::NoMemory;
 use fc_numbers::shared::SharedBytes;
 use sqlite_items::Items;
 
@@ -42,4 +43,16 @@ pub enum ImageFault {
     Elf(ElfFault),
     NotJson,
     Shape(Field),
+}
+
+impl From<NoMemory> for ImageFault {
+    ghost use Rattle.std.specs.Prelude.{◌≡◌};
+    ghost use Rattle.guest_image.specs.declared.image.ImageFault.TheVariants.{Elf};
+    ghost use Rattle.elf_read.specs.declared.parts.ElfFault.TheVariants as elf;
+
+    ghost from_gives = { λ _ fault. fault ≡ Elf elf.NoMemory };
+
+    fn from(_refused: NoMemory) -> ImageFault {
+        ImageFault::Elf(ElfFault::NoMemory)
+    }
 }

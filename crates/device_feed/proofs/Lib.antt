@@ -1,0 +1,4 @@
+pub mod Events
+pub mod Levels
+pub mod Keys
+pub mod Bits

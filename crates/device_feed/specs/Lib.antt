@@ -1,0 +1,4 @@
+pub mod Devices
+pub mod Calls
+pub mod Lists
+pub mod Fed

@@ -1,0 +1,7 @@
+pub mod Halves
+pub mod LeftOver
+pub mod Places
+pub mod Steps
+pub mod Stays
+pub mod Parts
+pub mod Started

@@ -1,0 +1,18 @@
+//! The board of a guest: its vCPUs, memory, devices, console and schedule, and the two ways in which a vCPU steps.
+//!
+//! - [`fetch`]: where an instruction is fetched from, by the original memory.
+//! - [`step`]: one step of one vCPU: the interrupt that is due, else the fetch, the trap or the effect.
+//! - [`seen`]: what a vCPU does by the halfwords that its lane holds of a view.
+//! - [`board`]: the board and its steps.
+//!
+//! `Board::step_full` is one step of the full machine, which reads instructions from the original memory; no view
+//! occurs in it. `Board::step_seen` is the same step by the halfwords of a view that are handed in, whatever they
+//! are, or a need of halfwords, or a trap on a zero; all but a step leave the board as it was. Below stand the crates
+//! of one instruction, the memory and the devices; above, the core, which gives each vCPU its lane.
+#![tactic(auto)]
+
+pub mod board;
+pub mod fetch;
+mod open;
+pub mod seen;
+pub mod step;

@@ -1,0 +1,233 @@
+//! One step of one vCPU.
+
+ghost use Rattle.std.specs.Prelude.{◌≡◌, ◌+◌, ◌*◌, ◌^◌, ◌<◌, ◌≤◌, ℕ, None, slice_index};
+ghost use Rattle.gstage.specs.Stage.{IsFor};
+ghost use Rattle.guest_ram.specs.Ram.{Ram, CanStore};
+ghost use Rattle.rv_decode.specs.Rows.{decode_of, decode16_of};
+ghost use Rattle.rv_step.specs.Site.{Site};
+ghost use Rattle.device_feed.specs.Devices.{Devices};
+ghost use Rattle.guest_board.specs.Fetch.{fetched, text_place};
+ghost use Rattle.guest_board.specs.Step.{Made, in_trap, vcpu_after, left_by, by_inst, by_fetch, nesting_of, ready_of, ready_by, made_by, due_at, place_of, told, plain, word, with_vcpu};
+
+use crate::fetch::{Fetched, fetch, place_in_text};
+use device_feed::feed::Feed;
+use fc_numbers::machine::{End, Mode};
+use fc_numbers::places::Gpa;
+use gstage::stage::SecondStage;
+use guest_ram::GuestRam;
+use rv_decode::{Inst, decode16, decode32};
+use rv_step::causes::ILLEGAL_INSTRUCTION;
+use rv_step::execute::execute;
+use rv_step::vcpu::{Effect, Vcpu};
+use trap_unit::{INTERRUPT, enter, pending};
+
+/// What a step does to the depth of traps.
+#[derive(Debug, Clone, Copy)]
+pub enum Nesting {
+    Stays,
+    Interrupts,
+    Traps,
+    Returns,
+}
+
+/// What a step leaves besides the machine's parts: the end of the run, the place that was written, the traps.
+#[derive(Debug, Clone, Copy)]
+pub struct Left {
+    pub end: Option<End>,
+    pub wrote: Option<Gpa>,
+    pub nesting: Nesting,
+}
+
+/// What a step begins with: an interrupt that is due, by its code, or a fetch.
+#[derive(Debug, Clone, Copy)]
+pub enum Ready {
+    Interrupt(u8),
+    Fetches(Fetched),
+}
+
+fn left_plain(nesting: Nesting) -> Left
+    ensures { result ≡ plain nesting }
+{
+    Left {
+        end: None,
+        wrote: None,
+        nesting,
+    }
+}
+
+#[tactic(auto, unfolding(crate::specs::Step::in_trap))]
+fn trap(v: &mut Vcpu, cause: u64, tval: u64)
+    ensures { v.new ≡ in_trap v.old cause tval }
+{
+    let mode = v.mode;
+    let pc = v.pc;
+    v.pc = enter(&mut v.csr, mode, cause, tval, pc);
+    v.mode = Mode::Vs;
+}
+
+fn settle(v: &mut Vcpu, effect: Effect, bits: u32, nesting: Nesting) -> Left
+    ensures vcpu { v.new ≡ vcpu_after effect bits v.old }
+    ensures left { result ≡ left_by effect nesting }
+{
+    match effect {
+        Effect::Next { wrote } => Left {
+            end: None,
+            wrote,
+            nesting,
+        },
+        Effect::Trap { cause, tval } => {
+            let value = if cause == ILLEGAL_INSTRUCTION {
+                bits as u64
+            } else {
+                tval
+            };
+            trap(v, cause, value);
+            left_plain(Nesting::Traps)
+        }
+        Effect::End(end) => Left {
+            end: Some(end),
+            wrote: None,
+            nesting: Nesting::Stays,
+        },
+    }
+}
+
+#[tactic(auto, unfolding(crate::specs::Step::nesting_of))]
+fn nesting_by(inst: &Inst) -> Nesting
+    ensures { result ≡ nesting_of inst.now }
+{
+    match *inst {
+        Inst::Sret => Nesting::Returns,
+        _ => Nesting::Stays,
+    }
+}
+
+#[tactic(auto, unfolding(crate::specs::Step::by_inst))]
+fn act<S: SecondStage>(
+    inst: Option<Inst>,
+    bits: u32,
+    len: u8,
+    v: &mut Vcpu,
+    ram: &mut GuestRam,
+    feed: &mut Feed,
+    stage: &S,
+    put: &mut Option<u8>,
+    clock: u64,
+) -> Left
+    requires stage { IsFor (S.text stage.now) (S.ram stage.now) ram.old }
+    requires stamps { CanStore ram.old }
+    ensures { let got : Made = record { vcpu = v.new; ram = ram.new; devices = feed.new; put = put.new; left = result }
+        in let s : Site = record { vcpu = v.old; ram = ram.old; devices = feed.old }
+        in got ≡ by_inst inst bits len clock s }
+{
+    match inst {
+        None => {
+            *put = None;
+            trap(v, ILLEGAL_INSTRUCTION, bits as u64);
+            left_plain(Nesting::Traps)
+        }
+        Some(inst) => {
+            let effect = execute(&inst, len, v, ram, feed, stage, put, clock);
+            settle(v, effect, bits, nesting_by(&inst))
+        }
+    }
+}
+
+#[tactic(auto, unfolding(crate::specs::Step::by_fetch))]
+fn carry_out_fetch<S: SecondStage>(
+    got: Fetched,
+    v: &mut Vcpu,
+    ram: &mut GuestRam,
+    feed: &mut Feed,
+    stage: &S,
+    put: &mut Option<u8>,
+    clock: u64,
+) -> Left
+    requires stage { IsFor (S.text stage.now) (S.ram stage.now) ram.old }
+    requires stamps { CanStore ram.old }
+    ensures { let made : Made = record { vcpu = v.new; ram = ram.new; devices = feed.new; put = put.new; left = result }
+        in let s : Site = record { vcpu = v.old; ram = ram.old; devices = feed.old }
+        in made ≡ by_fetch got clock s }
+{
+    match got {
+        Fetched::Short { half, .. } => {
+            act(
+                decode16(half),
+                half as u32,
+                2,
+                v,
+                ram,
+                feed,
+                stage,
+                put,
+                clock,
+            )
+        }
+        Fetched::Long { first, second, .. } => {
+            let bits = first as u32 + 65536 * second as u32;
+            act(decode32(bits), bits, 4, v, ram, feed, stage, put, clock)
+        }
+        Fetched::Faults { cause, tval } => {
+            *put = None;
+            trap(v, cause, tval);
+            left_plain(Nesting::Traps)
+        }
+        Fetched::Stops(stop) => {
+            *put = None;
+            Left {
+                end: Some(End::Stopped(stop)),
+                wrote: None,
+                nesting: Nesting::Stays,
+            }
+        }
+    }
+}
+
+/// The rest of a step that begins so.
+#[tactic(auto, unfolding(crate::specs::Step::made_by))]
+pub fn carry_out<S: SecondStage>(
+    ready: Ready,
+    v: &mut Vcpu,
+    ram: &mut GuestRam,
+    feed: &mut Feed,
+    stage: &S,
+    put: &mut Option<u8>,
+    clock: u64,
+) -> Left
+    requires stage { IsFor (S.text stage.now) (S.ram stage.now) ram.old }
+    requires stamps { CanStore ram.old }
+    ensures { let made : Made = record { vcpu = v.new; ram = ram.new; devices = feed.new; put = put.new; left = result }
+        in let s : Site = record { vcpu = v.old; ram = ram.old; devices = feed.old }
+        in made ≡ made_by ready clock s }
+{
+    match ready {
+        Ready::Interrupt(code) => {
+            *put = None;
+            trap(v, INTERRUPT + code as u64, 0);
+            left_plain(Nesting::Interrupts)
+        }
+        Ready::Fetches(got) => carry_out_fetch(got, v, ram, feed, stage, put, clock),
+    }
+}
+
+/// What the vCPU's next step begins with.
+#[tactic(auto, unfolding(crate::specs::Step::ready_of))]
+pub fn begin<S: SecondStage>(v: &Vcpu, ram: &GuestRam, feed: &Feed, stage: &S, clock: u64) -> Ready
+    requires { IsFor (S.text stage.now) (S.ram stage.now) ram.now }
+    ensures { let s : Site = record { vcpu = v.now; ram = ram.now; devices = feed.now } in result ≡ ready_of s clock }
+{
+    match pending(&v.csr, v.mode, feed.lines(v.number, clock)) {
+        Some(code) => Ready::Interrupt(code),
+        None => Ready::Fetches(fetch(v, ram, stage)),
+    }
+}
+
+/// The place in text that a step fetches which begins so.
+pub fn place_fetched(ready: &Ready) -> Option<Gpa>
+    ensures { result ≡ place_of ready.now }
+{
+    match ready {
+        Ready::Interrupt(_) => None,
+        Ready::Fetches(got) => place_in_text(got),
+    }
+}

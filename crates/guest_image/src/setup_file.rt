@@ -1,0 +1,264 @@
+//! From the bytes of a file to the setup of a run.
+
+ghost use Rattle.std.specs.Prelude.{◌≡◌, ◌≢◌, [], codes, map, None, IfOk, IfErr, Ok, Err};
+ghost use Rattle.serde_json.specs.View.{view};
+ghost use Rattle.json_fields.specs.Fields.{whole_of};
+ghost use Rattle.guest_image.specs.Members.{member_as, member_or};
+ghost use Rattle.guest_image.specs.Asked.{hook_of, start_of, what_of, event_of, events_of, is_setup_known, asked_of, app_name_of};
+ghost use Rattle.guest_image.specs.Limits.{setup_of};
+ghost use Rattle.guest_image.specs.Accepted.{IsSetupFor};
+ghost use Rattle.guest_image.specs.declared.setup.SetupFault.TheVariants as setup;
+
+use crate::image::{Field, Image};
+use crate::limits::accept_setup;
+use crate::plain::whole_member;
+use crate::setup::{Setup, SetupFault};
+use fc_numbers::memory::NoMemory;
+use fc_numbers::name::Name;
+use json_fields::fields::{array, has_only, is_null, is_object, member, text, triple, whole};
+use json_fields::parse::{Unread, parse};
+use serde_json::Value;
+use sqlite_items::Items;
+use std::alloc::Global;
+
+/// What an event asks for, before it is known that the vCPU is there.
+#[derive(Debug, Clone, Copy, PartialEq, Eq)]
+pub(crate) enum AskedWhat {
+    Key(u8),
+    Raise(u64),
+    Drop(u64),
+}
+
+/// An event as it is asked for.
+#[derive(Debug, Clone, Copy, PartialEq, Eq)]
+pub(crate) struct AskedEvent {
+    pub at: u64,
+    pub what: AskedWhat,
+}
+
+/// What a setup file says, before its limits are tested.
+#[derive(Drop)]
+pub(crate) struct Asked {
+    pub vcpus: u64,
+    pub ram: u64,
+    pub steps: u64,
+    pub hook: Option<Items<u8>>,
+    pub name_at: u64,
+    pub start: Option<Name>,
+    pub events: Items<AskedEvent>,
+}
+
+/// The number at the key, or 0 where there is none.
+#[tactic(auto, unfolding(crate::specs::Members::member_or))]
+fn whole_or_zero(value: &Value, key: &str) -> Option<u64>
+    ensures { result ≡ member_or whole_of 0 key.now (view value.now) }
+{
+    match member(value, key) {
+        Some(found) => whole(found),
+        None => Some(0),
+    }
+}
+
+/// The name of the hook function: null or a text.
+#[tactic(auto, unfolding(crate::specs::Asked::hook_of))]
+fn read_hook(alloc: Global, value: &Value) -> Result<Option<Option<Items<u8>>>, NoMemory>
+    ensures { IfOk result (λ hook. hook ≡ hook_of (view value.now)) }
+{
+    if is_null(value) {
+        return Ok(Some(None));
+    }
+    match text(value) {
+        Some(name) => Ok(Some(Some(Items::from_slice(alloc, name.as_bytes())?))),
+        None => Ok(None),
+    }
+}
+
+#[tactic(auto, unfolding(crate::specs::Members::member_or))]
+fn hook_member(alloc: Global, value: &Value) -> Result<Option<Option<Items<u8>>>, NoMemory>
+    ensures { IfOk result (λ hook. hook ≡ member_or hook_of None (codes "hook") (view value.now)) }
+{
+    match member(value, "hook") {
+        Some(found) => read_hook(alloc, found),
+        None => Ok(Some(None)),
+    }
+}
+
+/// The app name that a text is.
+#[tactic(auto, unfolding(crate::specs::Asked::app_name_of))]
+fn read_app_name(value: &Value) -> Option<Name>
+    ensures { result ≡ app_name_of (view value.now) }
+{
+    match text(value) {
+        Some(name) => Name::of(name.as_bytes()),
+        None => None,
+    }
+}
+
+/// The first app name: null or a text that is an app name.
+#[tactic(auto, unfolding(crate::specs::Asked::start_of))]
+fn read_start(value: &Value) -> Option<Option<Name>>
+    ensures { result ≡ start_of (view value.now) }
+{
+    if is_null(value) {
+        return Some(None);
+    }
+    match read_app_name(value) {
+        Some(name) => Some(Some(name)),
+        None => None,
+    }
+}
+
+#[tactic(auto, unfolding(crate::specs::Members::member_or))]
+fn start_member(value: &Value) -> Option<Option<Name>>
+    ensures { result ≡ member_or start_of None (codes "start") (view value.now) }
+{
+    match member(value, "start") {
+        Some(found) => read_start(found),
+        None => Some(None),
+    }
+}
+
+/// What the word and the number of an event mean.
+#[tactic(auto, unfolding(crate::specs::Asked::what_of))]
+fn what(word: &str, number: u64) -> Option<AskedWhat>
+    ensures { result ≡ what_of word.now number }
+{
+    if word == "key" {
+        if number < 256 {
+            Some(AskedWhat::Key(number as u8))
+        } else {
+            None
+        }
+    } else if word == "raise" {
+        Some(AskedWhat::Raise(number))
+    } else if word == "drop" {
+        Some(AskedWhat::Drop(number))
+    } else {
+        None
+    }
+}
+
+/// One event: its clock, its word and its number.
+#[tactic(auto, unfolding(crate::specs::Asked::event_of))]
+fn read_event(value: &Value) -> Option<AskedEvent>
+    ensures { result ≡ event_of (view value.now) }
+{
+    let (at, word, number) = triple(value)?;
+    let at = whole(at)?;
+    let word = text(word)?;
+    let number = whole(number)?;
+    let what = what(word, number)?;
+    Some(AskedEvent { at, what })
+}
+
+/// The events of the file.
+#[tactic(auto, unfolding(crate::specs::Asked::events_of))]
+fn read_events(alloc: Global, value: &Value) -> Result<Option<Items<AskedEvent>>, NoMemory>
+    ensures { IfOk result (λ events. events ≡ events_of (view value.now)) }
+{
+    let Some(items) = array(value) else {
+        return Ok(None);
+    };
+    let mut events = Items::new(alloc);
+    for item in items {
+        let Some(event) = read_event(item) else {
+            return Ok(None);
+        };
+        events.push(event)?;
+    }
+    Ok(Some(events))
+}
+
+#[tactic(auto, unfolding(crate::specs::Members::member_or))]
+fn events_member(alloc: Global, value: &Value) -> Result<Option<Items<AskedEvent>>, NoMemory>
+    ensures { IfOk result (λ events. events ≡ member_or events_of [] (codes "events") (view value.now)) }
+{
+    match member(value, "events") {
+        Some(found) => read_events(alloc, found),
+        None => Ok(Some(Items::new(alloc))),
+    }
+}
+
+/// Whether the value has no key but those of a setup.
+#[tactic(auto, unfolding(crate::specs::Asked::is_setup_known))]
+fn is_known(value: &Value) -> bool
+    ensures { result ≡ is_setup_known (view value.now) }
+{
+    has_only(
+        value,
+        &[
+            "vcpus", "ram", "steps", "hook", "name_at", "start", "events",
+        ],
+    )
+}
+
+/// What the value says, or the first key that is missing or of another form.
+#[tactic(auto, unfolding(crate::specs::Asked::asked_of))]
+pub(crate) fn read_asked(alloc: Global, value: &Value) -> Result<Asked, SetupFault>
+    ensures ok { IfOk result (λ asked. asked_of (view value.now) ≡ Ok asked) }
+    ensures err { IfErr result (λ fault. fault ≢ setup.NoMemory → asked_of (view value.now) ≡ Err fault) }
+{
+    if !is_object(value) {
+        return Err(SetupFault::Shape(Field::Other));
+    }
+    let Some(vcpus) = whole_member(value, "vcpus") else {
+        return Err(SetupFault::Shape(Field::Vcpus));
+    };
+    let Some(ram) = whole_member(value, "ram") else {
+        return Err(SetupFault::Shape(Field::Ram));
+    };
+    let Some(steps) = whole_member(value, "steps") else {
+        return Err(SetupFault::Shape(Field::Steps));
+    };
+    let Some(hook) = hook_member(alloc, value)? else {
+        return Err(SetupFault::Shape(Field::Hook));
+    };
+    let Some(name_at) = whole_or_zero(value, "name_at") else {
+        return Err(SetupFault::Shape(Field::NameAt));
+    };
+    let Some(start) = start_member(value) else {
+        return Err(SetupFault::Shape(Field::Start));
+    };
+    let Some(events) = events_member(alloc, value)? else {
+        return Err(SetupFault::Shape(Field::Events));
+    };
+    if !is_known(value) {
+        return Err(SetupFault::Shape(Field::Other));
+    }
+    Ok(Asked {
+        vcpus,
+        ram,
+        steps,
+        hook,
+        name_at,
+        start,
+        events,
+    })
+}
+
+/// The setup that the bytes ask for, or the first fault.
+#[tactic(auto, unfolding(crate::specs::Limits::setup_of))]
+fn read_accepted(alloc: Global, bytes: &[u8], image: &Image) -> Result<Setup, SetupFault>
+    ensures ok { IfOk result (λ accepted. setup_of image.now bytes.now ≡ Ok accepted) }
+    ensures err { IfErr result (λ fault. fault ≢ setup.NoMemory → setup_of image.now bytes.now ≡ Err fault) }
+{
+    let value = match parse(alloc, bytes) {
+        Ok(value) => value,
+        Err(Unread::NotJson) => return Err(SetupFault::NotJson),
+        Err(Unread::NoMemory) => return Err(SetupFault::NoMemory),
+    };
+    let asked = read_asked(alloc, &value)?;
+    accept_setup(alloc, image, asked)
+}
+
+/// The setup of a run for an image: one JSON object with `vcpus`, `ram` and `steps`, and optionally `hook`,
+/// `name_at`, `start` and `events` (`[[clock,"key",byte],[clock,"raise",vcpu],[clock,"drop",vcpu],..]`).
+///
+/// An Err is the first fault of the file by its number, or want of memory.
+pub fn read_setup(alloc: Global, bytes: &[u8], image: &Image) -> Result<Setup, SetupFault>
+    ensures ok { IfOk result (λ accepted. setup_of image.now bytes.now ≡ Ok accepted) }
+    ensures lawful { IfOk result (λ accepted. IsSetupFor image.now accepted) }
+    ensures err { IfErr result (λ fault. fault ≢ setup.NoMemory → setup_of image.now bytes.now ≡ Err fault) }
+{
+    read_accepted(alloc, bytes, image)
+}

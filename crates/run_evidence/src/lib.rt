@@ -1,0 +1,2 @@
+//! What a run and its logs are evidence of.
+#![tactic(auto)]

@@ -1,0 +1,4 @@
+pub mod Aligned
+pub mod Low
+pub mod Keeps
+pub mod Untouched

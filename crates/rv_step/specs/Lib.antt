@@ -1,0 +1,4 @@
+pub mod Site
+pub mod Classes
+pub mod Executed
+pub mod Kept

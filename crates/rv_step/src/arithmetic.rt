@@ -1,0 +1,70 @@
+//! Arithmetic, jumps and branches, and instructions that only go on.
+
+ghost use Rattle.std.specs.Prelude.{◌≡◌, ◌+◌, ◌%◌, ◌^◌, ◌<◌, None};
+ghost use Rattle.rv_alu.specs.Alu.{alu_of, branch_of};
+ghost use Rattle.rv_step.specs.Site.{OnVcpu, reg_of, wrote, moved, after, plus};
+ghost use Rattle.rv_step.specs.Classes.{did_alu, did_put, did_jump, did_branch, did_nothing};
+
+use crate::vcpu::{Effect, Vcpu, following, register, write_back};
+use fc_numbers::places::Va;
+use rv_alu::{AluOp, BranchOp, alu, branch};
+
+/// Arithmetic on two numbers.
+#[tactic(auto, unfolding(crate::specs::Classes::did_alu))]
+pub(crate) fn do_alu(vcpu: &mut Vcpu, len: u8, op: AluOp, rd: u8, a: u64, b: u64) -> Effect
+    ensures { let made : OnVcpu = record { vcpu = vcpu.new; effect = result } in made ≡ did_alu vcpu.old len op rd a b }
+{
+    write_back(vcpu, len, rd, alu(op, a, b));
+    Effect::Next { wrote: None }
+}
+
+/// A number that is only put into a register: LUI and AUIPC.
+#[tactic(auto, unfolding(crate::specs::Classes::did_put))]
+pub(crate) fn do_put(vcpu: &mut Vcpu, len: u8, rd: u8, value: u64) -> Effect
+    ensures { let made : OnVcpu = record { vcpu = vcpu.new; effect = result } in made ≡ did_put vcpu.old len rd value }
+{
+    write_back(vcpu, len, rd, value);
+    Effect::Next { wrote: None }
+}
+
+/// A jump that leaves the address after it in a register.
+#[tactic(auto, unfolding(crate::specs::Classes::did_jump))]
+pub(crate) fn do_jump(vcpu: &mut Vcpu, len: u8, rd: u8, to: u64) -> Effect
+    ensures { let made : OnVcpu = record { vcpu = vcpu.new; effect = result } in made ≡ did_jump vcpu.old len rd to }
+{
+    let link = following(vcpu, len);
+    write_back(vcpu, len, rd, link);
+    vcpu.pc = Va(to);
+    Effect::Next { wrote: None }
+}
+
+/// A branch on two registers.
+#[tactic(auto, unfolding(crate::specs::Classes::did_branch))]
+pub(crate) fn do_branch(
+    vcpu: &mut Vcpu,
+    len: u8,
+    op: BranchOp,
+    rs1: u8,
+    rs2: u8,
+    imm: i64,
+) -> Effect
+    ensures { let made : OnVcpu = record { vcpu = vcpu.new; effect = result } in made ≡ did_branch vcpu.old len op rs1 rs2 imm }
+{
+    let to = if branch(op, register(vcpu, rs1), register(vcpu, rs2)) {
+        vcpu.pc.0.wrapping_add(imm.cast_unsigned())
+    } else {
+        following(vcpu, len)
+    };
+    vcpu.pc = Va(to);
+    Effect::Next { wrote: None }
+}
+
+/// An instruction that only goes on.
+#[tactic(auto, unfolding(crate::specs::Classes::did_nothing))]
+pub(crate) fn do_nothing(vcpu: &mut Vcpu, len: u8) -> Effect
+    ensures { let made : OnVcpu = record { vcpu = vcpu.new; effect = result } in made ≡ did_nothing vcpu.old len }
+{
+    let to = following(vcpu, len);
+    vcpu.pc = Va(to);
+    Effect::Next { wrote: None }
+}

@@ -1,0 +1,7 @@
+pub mod Verdicts
+pub mod Ready
+pub mod Truth
+pub mod Kept
+pub mod Start
+pub mod Waiting
+pub mod EveryOrder

@@ -1,0 +1,195 @@
+-- An event keeps the parts together.
+use Rattle.std.proofs.Common.{◌≡◌, ◌≢◌, ℕ, zero, suc, ◌+◌, ◌-◌, ◌*◌, ◌<◌, ◌≤◌, true, false, Bool, List, [], ◌∷◌, ◌++◌, length, refl, sym, ap, subst, ◌∙◌, arith, Option, Some, None, length-set}
+use Rattle.std.specs.Prelude.{◌==◌, slice_index_or, slice_set, nat_le, if◌then◌else◌}
+use Rattle.std.proofs.lemmas.Bool.Decides.{nat_tests}
+use Rattle.std.proofs.lemmas.Grind.{common_steps}
+use Rattle.std.proofs.lemmas.List.Quantifiers.{position-Some}
+use Rattle.function_table.specs.Groups.{Groups, group_at, groups_count, IsGroups}
+use Rattle.function_table.proofs.GroupLemmas.{group-below}
+use Rattle.chain_log.specs.declared.entry.LogEntry.{LogEntry}
+use Rattle.guest_ram.specs.Ram.{Ram, is_text}
+use Rattle.view_file.specs.Named.{view_named}
+use Rattle.view_store.specs.Paged.{Paper, patched, logged, is_present}
+use Rattle.guest_board.specs.declared.step.Ready.{Ready}
+use Rattle.guest_board.specs.declared.seen.Windows.{Windows}
+use Rattle.guest_board.specs.declared.seen.Verdict.{Verdict}
+use Rattle.guest_board.specs.declared.seen.Verdict.TheVariants.{Idle, Needs, Zeroes, Goes}
+use Rattle.guest_board.specs.Board.{State, Seat, may, name_of, next_of, ready_at, stepped_by, moved}
+use Rattle.guest_board.specs.Seen.{after_verdict, half_no, by_ready, trapped_at}
+use Rattle.guest_board.specs.Step.{place_of}
+use Rattle.guest_board.proofs.Steps.{next-text, next-is, stepped-vcpus, stepped-names}
+use Rattle.vcpu_core.specs.declared.lane.Lane.{Lane}
+use Rattle.vcpu_core.specs.declared.lane.Phase.{Phase}
+use Rattle.vcpu_core.specs.declared.lane.Phase.TheVariants.{Running, Wants, Trapped, Looked}
+use Rattle.vcpu_core.specs.Lanes.{seated, blank_windows, after_turn, in_phase, emptied, after_fill, after_look, after_mend}
+use Rattle.vcpu_core.specs.World.{World, IsReady, IsLaneReady, IsPaperReady, IsPlaced, HasView, gone, lane_of, view_of, paper_in, blank_paper, blank_lane, windows_of, verdict_in, with_lane, after_event}
+use Rattle.vcpu_core.proofs.Verdicts.{verdict-may, ready-needs, ready-zeroes, ready-busy, IsNeed, IsZero}
+use Rattle.fc_numbers.specs.declared.places.Span.{Span}
+use Rattle.guest_ram.specs.Ram.{IsLaid}
+use Rattle.rv_step.specs.Kept.{KeepsText}
+use Rattle.guest_board.proofs.Stays.{stepped_keeps}
+
+-- what holds of each member holds after one is replaced
+set-each-by : {X : Type 0} (d : ℕ → X) (P : ℕ → X → Type 0) (xs : List X) (i : ℕ) (x : X)
+    → ((k : ℕ) → k < length xs → P k (slice_index_or xs k (d k))) → P i x
+    → (k : ℕ) → k < length (slice_set xs i x) → P k (slice_index_or (slice_set xs i x) k (d k))
+set-each-by d P [] i x all new k h = all k h
+set-each-by d P (y ∷ ys) zero x all new zero h = new
+set-each-by d P (y ∷ ys) zero x all new (suc k) h = all (suc k) h
+set-each-by d P (y ∷ ys) (suc i) x all new zero h = all zero (omega arith)
+set-each-by d P (y ∷ ys) (suc i) x all new (suc k) h = set-each-by (λ n. d (suc n)) (λ n. P (suc n)) ys i x (λ n w. all (suc n) (omega (arith, w))) new k (omega (arith, h))
+
+pub set-lane : (P : ℕ → Lane → Type 0) (lanes : List Lane) (i : ℕ) (l : Lane)
+    → ((k : ℕ) → k < length lanes → P k (slice_index_or lanes k (blank_lane k))) → P i l
+    → (k : ℕ) → k < length (slice_set lanes i l) → P k (slice_index_or (slice_set lanes i l) k (blank_lane k))
+set-lane = set-each-by blank_lane
+
+pub set-paper : (P : ℕ → Paper → Type 0) (papers : List Paper) (v : ℕ) (p : Paper)
+    → ((k : ℕ) → k < length papers → P k (paper_in papers k)) → P v p
+    → (k : ℕ) → k < length (slice_set papers v p) → P k (paper_in (slice_set papers v p) k)
+set-paper = set-each-by (λ k. blank_paper)
+
+-- a lane is ready in any world with the same groups, profile and names, and as many views
+pub lane-ready-in : (w w' : World) (k : ℕ) (l : Lane) → w'.groups ≡ w.groups → w'.profile ≡ w.profile → w'.board.state.names ≡ w.board.state.names
+    → length w'.papers ≡ length w.papers → IsLaneReady w k l → IsLaneReady w' k l
+lane-ready-in w w' k l g p n s r = record {
+  number = r.number;
+  view = rw s r.view;
+  placed = rw g r.placed;
+  has_view = subst (λ v. HasView v l l.phase) (sym (ap (λ (x : Rattle.view_file.specs.declared.views.Views.Views). view_named x (slice_index_or w'.board.state.names k None)) p
+      ∙ ap (λ (x : List (Option (List ℕ))). view_named w.profile (slice_index_or x k None)) n)) r.has_view;
+}
+
+-- the world with another board of the same text, names and vCPUs, and one lane replaced
+pub record IsNextBoard (b b' : Seat) : Type 0 where
+  pub start : b'.state.ram.text.start ≡ b.state.ram.text.start
+  pub end : b'.state.ram.text.end ≡ b.state.ram.text.end
+  pub names : b'.state.names ≡ b.state.names
+  pub vcpus : length b'.state.vcpus ≡ length b.state.vcpus
+
+pub same-board : (b : Seat) → IsNextBoard b b
+same-board b = record { start = refl; end = refl; names = refl; vcpus = refl }
+
+pub board-lane-ready : (w : World) (i : ℕ) (l : Lane) (b' : Seat) → IsReady w → IsNextBoard w.board b' → IsLaneReady w i l
+    → IsReady (record w { board = b'; lanes = slice_set w.lanes i l })
+board-lane-ready w i l b' r n new = record {
+  groups = r.groups;
+  start = n.start ∙ r.start;
+  end = n.end ∙ r.end;
+  apps = r.apps;
+  views = r.views;
+  lanes = simp length-set (r.lanes ∙ sym n.vcpus);
+  papers = λ v h. record { number = (r.papers v h).number; groups = (r.papers v h).groups };
+  each = set-lane (λ k x. IsLaneReady (record w { board = b'; lanes = slice_set w.lanes i l }) k x) w.lanes i l
+      (λ k h. lane-ready-in w (record w { board = b'; lanes = slice_set w.lanes i l }) k (lane_of w k) refl refl n.names refl (r.each k h))
+      (lane-ready-in w (record w { board = b'; lanes = slice_set w.lanes i l }) i l refl refl n.names refl new);
+}
+
+pub with_lane-ready : (w : World) (i : ℕ) (l : Lane) → IsReady w → IsLaneReady w i l → IsReady (with_lane w i l)
+with_lane-ready w i l r new = board-lane-ready w i l w.board r (same-board w.board) new
+
+-- the world with a view patched and one lane replaced
+pub patched-ready : (w : World) (i v : ℕ) (l : Lane) (p : Paper) → IsReady w → IsPaperReady w v p → IsLaneReady w i l
+    → IsReady (record w { papers = slice_set w.papers v p; lanes = slice_set w.lanes i l })
+patched-ready w i v l p r paper new = record {
+  groups = r.groups;
+  start = r.start;
+  end = r.end;
+  apps = r.apps;
+  views = simp length-set r.views;
+  lanes = simp length-set r.lanes;
+  papers = set-paper (λ k x. IsPaperReady (record w { papers = slice_set w.papers v p; lanes = slice_set w.lanes i l }) k x) w.papers v p
+      (λ k h. record { number = (r.papers k h).number; groups = (r.papers k h).groups }) (record { number = paper.number; groups = paper.groups });
+  each = set-lane (λ k x. IsLaneReady (record w { papers = slice_set w.papers v p; lanes = slice_set w.lanes i l }) k x) w.lanes i l
+      (λ k h. lane-ready-in w (record w { papers = slice_set w.papers v p; lanes = slice_set w.lanes i l }) k (lane_of w k) refl refl refl (simp length-set) (r.each k h))
+      (lane-ready-in w (record w { papers = slice_set w.papers v p; lanes = slice_set w.lanes i l }) i l refl refl refl (simp length-set) new);
+}
+
+-- a place of text, by the groups
+pub text-in : (w : World) → IsReady w → (p : ℕ) → is_text w.board.state.ram p ≡ true → (w.groups.base ≤ p) × (p < w.groups.base + w.groups.size)
+text-in w r p e = (grind (arith, nat_tests, e, r.start), grind (arith, nat_tests, e, r.end))
+
+pub next-in : (w : World) (i : ℕ) → IsReady w → (p : ℕ) → next_of w.board.state i ≡ Some p → (w.groups.base ≤ p) × (p < w.groups.base + w.groups.size)
+next-in w i r p e = text-in w r p (next-text w.board.state i p e)
+
+seated-view : (v : ℕ) (w : Windows) → (seated v w).view ≡ v
+seated-view v w =
+    elim (w.view == v) as (λ b. (w.view == v) ≡ b → (if b then w else blank_windows v).view ≡ v) [
+      | true ↦ λ t. grind (arith, nat_tests, t)
+      | false ↦ λ t. refl
+    ] refl
+
+pub windows-view : (w : World) (i : ℕ) (l : Lane) → (windows_of w i l).view ≡ view_of w i
+windows-view w i l = seated-view (view_of w i) l.windows
+
+-- the view of a name is one of the views
+view-below : (apps : List Rattle.view_file.specs.declared.views.App.App) (name : List ℕ) (o : Option ℕ) → Rattle.view_file.specs.Named.position_of name apps ≡ o → Rattle.view_file.specs.Named.view_at o < length apps + 1
+view-below apps name None e = omega arith
+view-below apps name (Some at) e = let h : at < length apps = (position-Some _ apps at (record { name = []; functions = [] }) e).0 in omega (arith, h)
+
+pub named-below : (v : Rattle.view_file.specs.declared.views.Views.Views) (name : Option (List ℕ)) → view_named v name < length v.apps + 1
+named-below v None = omega arith
+named-below v (Some name) = view-below v.apps name (Rattle.view_file.specs.Named.position_of name v.apps) refl
+
+view-inside : (w : World) (i : ℕ) → IsReady w → view_of w i < length w.papers
+view-inside w i r = omega (arith, r.views, named-below w.profile (name_of w.board.state i))
+
+-- a running lane after its turn
+turned-ready : (w : World) (i : ℕ) (l : Lane) (v : Verdict) → IsReady w → IsLaid w.board.state.ram → IsLaneReady w i l
+    → by_ready w.board.state.ram.text.start (windows_of w i l) (ready_at w.board.state i) ≡ v → IsReady (after_event w i l (windows_of w i l) v)
+unfolding after_verdict
+turned-ready w i l Idle r laid lane e = absurd (ready-busy w.board.state.ram.text.start (windows_of w i l) (ready_at w.board.state i) e)
+turned-ready w i l (Needs n) r laid lane e =
+    let need : IsNeed w.board.state.ram.text.start n (ready_at w.board.state i) = ready-needs w.board.state.ram.text.start (windows_of w i l) (ready_at w.board.state i) n e in
+    let inside : (w.groups.base ≤ need.place) × (need.place < w.groups.base + w.groups.size) = next-in w i r need.place (next-is w.board.state i ∙ need.next) in
+    with_lane-ready w i (in_phase l (windows_of w i l) (Wants n)) r (record {
+      number = lane.number;
+      view = rw (windows-view w i l) (view-inside w i r);
+      placed = omega (arith, need.number, inside.0, inside.1, r.start);
+      has_view = windows-view w i l;
+    })
+turned-ready w i l (Zeroes p) r laid lane e =
+    let zero : (place_of (ready_at w.board.state i) ≡ Some p) × IsZero w.board.state.ram.text.start (windows_of w i l) p =
+    ready-zeroes w.board.state.ram.text.start (windows_of w i l) (ready_at w.board.state i) p e in
+    let inside : (w.groups.base ≤ p) × (p < w.groups.base + w.groups.size) = next-in w i r p (next-is w.board.state i ∙ zero.0) in
+    with_lane-ready w i (in_phase l (windows_of w i l) (Trapped (trapped_at w.board.state i (windows_of w i l).view p))) r (record {
+      number = lane.number;
+      view = rw (windows-view w i l) (view-inside w i r);
+      placed = (refl, inside.0, inside.1);
+      has_view = windows-view w i l;
+    })
+turned-ready w i l (Goes ready) r laid lane e =
+    let k : KeepsText w.board.state.ram (stepped_by w.board.steps w.board.state i ready).ram = stepped_keeps w.board.steps w.board.state i ready laid in
+    board-lane-ready w i (in_phase l (emptied (windows_of w i l)) Running) (moved w.board i (stepped_by w.board.steps w.board.state i ready)) r (record {
+      start = ap (λ (s : Span). s.start) k.text;
+      end = ap (λ (s : Span). s.end) k.text;
+      names = stepped-names w.board.steps w.board.state i ready;
+      vcpus = stepped-vcpus w.board.steps w.board.state i ready;
+    }) (record {
+      number = lane.number;
+      view = rw (windows-view w i l) (view-inside w i r);
+      placed = tt;
+      has_view = tt;
+    })
+
+patched-paper : (w : World) (v : ℕ) (p : Paper) (e : LogEntry) (b : Bool) → IsPaperReady w v p → IsPaperReady w v (if b then p else logged p e)
+patched-paper w v p e true k = k
+patched-paper w v p e false k = record { number = k.number; groups = k.groups }
+
+-- an event keeps the parts together
+pub gone-ready : (w : World) (i : ℕ) (l : Lane) (phase : Phase) → may w.board.steps w.board.state i ≡ true → IsReady w → IsLaid w.board.state.ram → IsLaneReady w i l
+    → l.phase ≡ phase → IsReady (gone w i l phase)
+unfolding gone
+gone-ready w i l Running m r laid lane e =
+    subst (λ v. IsReady (after_event w i l (windows_of w i l) v)) (sym (verdict-may w.board.steps w.board.state i (windows_of w i l) m))
+    (turned-ready w i l (by_ready w.board.state.ram.text.start (windows_of w i l) (ready_at w.board.state i)) r laid lane refl)
+gone-ready w i l (Wants n) m r laid lane e =
+    with_lane-ready w i (after_fill (paper_in w.papers l.windows.view) n l) r (record { number = lane.number; view = lane.view; placed = tt; has_view = tt })
+gone-ready w i l (Trapped t) m r laid lane e =
+    let placed : (t.view ≡ l.windows.view) × (w.groups.base ≤ t.pc) × (t.pc < w.groups.base + w.groups.size) = subst (λ x. IsPlaced w.groups l x) e lane.placed in
+    let has : l.windows.view ≡ view_of w i = subst (λ x. HasView (view_of w i) l x) e lane.has_view in
+    with_lane-ready w i (after_look w.groups t l) r (record { number = lane.number; view = lane.view; placed = (placed.0, group-below w.groups t.pc, refl); has_view = has })
+gone-ready w i l (Looked k) m r laid lane e =
+    patched-ready w i l.windows.view (after_mend w.groups k.group l) (patched (paper_in w.papers l.windows.view) k.entry) r
+    (patched-paper w l.windows.view (paper_in w.papers l.windows.view) k.entry (is_present (paper_in w.papers l.windows.view).base (paper_in w.papers l.windows.view).log k.entry.group) (r.papers l.windows.view lane.view))
+    (record { number = lane.number; view = lane.view; placed = tt; has_view = tt })

@@ -1,0 +1,36 @@
+-- The view machine before any event.
+-- The rule: a view for each app and the full view, each with its base and an empty log; lanes that hold nothing.
+use Rattle.std.specs.Prelude.{ℕ, ◌+◌, Option, List, [], ◌∷◌, ◌++◌, length}
+use Rattle.std.proofs.Common.{zero, suc}
+use Rattle.view_file.specs.Named.{view_named}
+use Rattle.view_file.specs.Base.{base_of}
+use Rattle.view_store.specs.Paged.{Paper}
+use Rattle.guest_board.specs.First.{first_seat}
+use Rattle.run_evidence.specs.Config.{Config, groups_in}
+use Rattle.vcpu_core.specs.declared.lane.Lane.{Lane}
+use Rattle.vcpu_core.specs.declared.lane.Phase.TheVariants.{Running}
+use Rattle.vcpu_core.specs.Lanes.{blank_windows}
+use Rattle.vcpu_core.specs.World.{World}
+
+abbrev pub first_paper : Config → ℕ → Paper
+first_paper c v = record { number = v; text = c.image.text; groups = groups_in c; base = base_of c.views (groups_in c) v; log = [] }
+
+unfoldable pub first_papers : Config → ℕ → List Paper
+first_papers c zero = []
+first_papers c (suc n) = first_papers c n ++ first_paper c n ∷ []
+
+abbrev pub first_lane : ℕ → ℕ → Lane
+first_lane v i = record { vcpu = i; windows = blank_windows v; phase = Running }
+
+unfoldable pub first_lanes : ℕ → ℕ → List Lane
+first_lanes v zero = []
+first_lanes v (suc n) = first_lanes v n ++ first_lane v n ∷ []
+
+unfoldable pub first_world : Config → World
+first_world c = record {
+  profile = c.views;
+  groups = groups_in c;
+  board = first_seat c.image c.setup;
+  papers = first_papers c (length c.views.apps + 1);
+  lanes = first_lanes (view_named c.views c.setup.start) c.setup.vcpus;
+}

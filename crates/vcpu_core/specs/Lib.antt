@@ -1,0 +1,6 @@
+pub mod Lanes
+pub mod World
+pub mod Waits
+pub mod First
+pub mod Sound
+pub mod Whole

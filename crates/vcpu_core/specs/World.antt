@@ -1,0 +1,138 @@
+-- The view machine: a board, the views, and a lane for each vCPU, and what one event does to them.
+-- The rule: an event of a vCPU that may step goes by its lane's phase; a step, a need, a trap, a fill, a lookup or a mend.
+use Rattle.std.specs.Prelude.{◌≡◌, ℕ, ◌+◌, ◌-◌, ◌*◌, ◌<◌, ◌≤◌, Bool, false, if◌then◌else◌, Option, None, List, [], ◌∷◌, length, slice_index_or, slice_set, map}
+use Rattle.function_table.specs.Groups.{Groups, groups_count, IsGroups}
+use Rattle.chain_log.specs.declared.entry.LogEntry.{LogEntry}
+use Rattle.view_file.specs.declared.views.Views.{Views}
+use Rattle.view_file.specs.declared.views.TheConstants.{APPS_MOST}
+use Rattle.view_file.specs.Named.{view_named}
+use Rattle.view_store.specs.Paged.{Paper, patched}
+use Rattle.guest_board.specs.declared.seen.Windows.{Windows}
+use Rattle.guest_board.specs.declared.seen.Verdict.{Verdict}
+use Rattle.guest_board.specs.Board.{State, Seat, may, name_of}
+use Rattle.guest_board.specs.Seen.{verdict_of, after_verdict}
+use Rattle.vcpu_core.specs.declared.lane.Lane.{Lane}
+use Rattle.vcpu_core.specs.declared.lane.Phase.{Phase}
+use Rattle.vcpu_core.specs.declared.lane.Phase.TheVariants.{Running, Wants, Trapped, Looked}
+use Rattle.vcpu_core.specs.declared.lane.Went.{Went}
+use Rattle.vcpu_core.specs.declared.lane.Went.TheVariants.{Over, Stepped, Erased}
+use Rattle.vcpu_core.specs.Lanes.{blank_windows, seated, after_turn, after_fill, after_look, after_mend, went_by}
+
+-- the profile's views and the groups of the text, which stay; the board, the views and the lanes, which change
+pub record World : Type 0 where
+  pub profile : Views
+  pub groups : Groups
+  pub board : Seat
+  pub papers : List Paper
+  pub lanes : List Lane
+
+abbrev pub blank_groups : Groups
+blank_groups = record { base = 0; size = 0; functions = []; starts = [] }
+
+abbrev pub blank_paper : Paper
+blank_paper = record { number = 0; text = []; groups = blank_groups; base = []; log = [] }
+
+abbrev pub blank_lane : ℕ → Lane
+blank_lane i = record { vcpu = i; windows = blank_windows 0; phase = Running }
+
+abbrev pub paper_in : List Paper → ℕ → Paper
+paper_in papers v = slice_index_or papers v blank_paper
+
+abbrev pub lane_of : World → ℕ → Lane
+lane_of w i = slice_index_or w.lanes i (blank_lane i)
+
+abbrev pub logs_of : List Paper → List (List LogEntry)
+logs_of papers = map (λ p. p.log) papers
+
+-- the view of a vCPU: that of its app name
+abbrev pub view_of : World → ℕ → ℕ
+view_of w i = view_named w.profile (name_of w.board.state i)
+
+-- the windows by which a running lane steps
+abbrev pub windows_of : World → ℕ → Lane → Windows
+windows_of w i l = seated (view_of w i) l.windows
+
+abbrev pub verdict_in : World → ℕ → Windows → Verdict
+verdict_in w i windows = verdict_of w.board.steps w.board.state i windows
+
+abbrev pub with_lane : World → ℕ → Lane → World
+with_lane w i l = record w { lanes = slice_set w.lanes i l }
+
+abbrev pub after_event : World → ℕ → Lane → Windows → Verdict → World
+after_event w i l windows verdict = record w {
+  board = after_verdict w.board i verdict;
+  lanes = slice_set w.lanes i (after_turn w.board.state i l windows verdict);
+}
+
+-- one event of vCPU i, by the phase of its lane
+unfoldable pub gone : World → ℕ → Lane → Phase → World
+gone w i l Running = after_event w i l (windows_of w i l) (verdict_in w i (windows_of w i l))
+gone w i l (Wants n) = with_lane w i (after_fill (paper_in w.papers l.windows.view) n l)
+gone w i l (Trapped trap) = with_lane w i (after_look w.groups trap l)
+gone w i l (Looked looked) = record w {
+  papers = slice_set w.papers l.windows.view (patched (paper_in w.papers l.windows.view) looked.entry);
+  lanes = slice_set w.lanes i (after_mend w.groups looked.group l);
+}
+
+unfoldable pub went_in : World → ℕ → Lane → Phase → Went
+went_in w i l Running = went_by (verdict_in w i (windows_of w i l))
+went_in w i l (Wants n) = Erased
+went_in w i l (Trapped trap) = Erased
+went_in w i l (Looked looked) = Erased
+
+-- the world after `go` of vCPU i, and what the event was
+unfoldable pub go_of : World → ℕ → World
+go_of w i = if may w.board.steps w.board.state i then gone w i (lane_of w i) (lane_of w i).phase else w
+
+unfoldable pub went_of : World → ℕ → Went
+went_of w i = if may w.board.steps w.board.state i then went_in w i (lane_of w i) (lane_of w i).phase else Over
+
+-- the world after a list of go's
+abbrev pub go_all : World → List ℕ → World
+go_all w [] = w
+go_all w (i ∷ is) = go_all (go_of w i) is
+
+-- the members of the list that stepped
+abbrev pub kept_if : Went → ℕ → List ℕ → List ℕ
+kept_if Over i is = is
+kept_if Stepped i is = i ∷ is
+kept_if Erased i is = is
+
+abbrev pub erased : World → List ℕ → List ℕ
+erased w [] = []
+erased w (i ∷ is) = kept_if (went_of w i) i (erased (go_of w i) is)
+
+-- what a phase keeps lies in text, and is of the lane's view
+abbrev pub IsPlaced : Groups → Lane → Phase → Type 0
+IsPlaced groups l Running = Unit {0}
+IsPlaced groups l (Wants n) = 2 * n < groups.size
+IsPlaced groups l (Trapped t) = (t.view ≡ l.windows.view) × (groups.base ≤ t.pc) × (t.pc < groups.base + groups.size)
+IsPlaced groups l (Looked k) = (k.entry.view ≡ l.windows.view) × (k.group < groups_count groups) × (k.entry.group ≡ k.group)
+
+-- in every phase but the running one the lane's view is its vCPU's
+abbrev pub HasView : ℕ → Lane → Phase → Type 0
+HasView v l Running = Unit {0}
+HasView v l (Wants n) = l.windows.view ≡ v
+HasView v l (Trapped t) = l.windows.view ≡ v
+HasView v l (Looked k) = l.windows.view ≡ v
+
+pub record IsLaneReady (w : World) (i : ℕ) (l : Lane) : Type 0 where
+  pub number : l.vcpu ≡ i
+  pub view : l.windows.view < length w.papers
+  pub placed : IsPlaced w.groups l l.phase
+  pub has_view : HasView (view_of w i) l l.phase
+
+pub record IsPaperReady (w : World) (v : ℕ) (p : Paper) : Type 0 where
+  pub number : p.number ≡ v
+  pub groups : p.groups ≡ w.groups
+
+-- board, views and lanes speak of one text, and what each lane keeps lies in it
+pub record IsReady (w : World) : Type 0 where
+  pub groups : IsGroups w.groups
+  pub start : w.board.state.ram.text.start ≡ w.groups.base
+  pub end : w.board.state.ram.text.end ≡ w.groups.base + w.groups.size
+  pub apps : length w.profile.apps ≤ APPS_MOST
+  pub views : length w.papers ≡ length w.profile.apps + 1
+  pub lanes : length w.lanes ≡ length w.board.state.vcpus
+  pub papers : (v : ℕ) → v < length w.papers → IsPaperReady w v (paper_in w.papers v)
+  pub each : (i : ℕ) → i < length w.lanes → IsLaneReady w i (lane_of w i)

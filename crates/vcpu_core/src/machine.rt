@@ -1,0 +1,152 @@
+//! The core of a run.
+
+ghost use Rattle.std.specs.Prelude.{◌≡◌, ◌≢◌, ◌≤◌, ◌<◌, ◌+◌, ◌*◌, ◌^◌, [], ◌∷◌, ◌++◌, ℕ, List, IfOk, length, slice_index_or, slice_set};
+ghost use Rattle.guest_image.specs.Accepted.{IsImage, IsSetupFor};
+ghost use Rattle.function_table.specs.Groups.{groups_of, groups_count};
+ghost use Rattle.view_file.specs.declared.views.TheConstants.{APPS_MOST};
+ghost use Rattle.view_file.specs.Named.{view_named};
+ghost use Rattle.view_file.specs.Fits.{IsViewsFor};
+ghost use Rattle.view_store.specs.Paged.{Paper};
+ghost use Rattle.run_evidence.specs.Config.{Config, groups_in};
+ghost use Rattle.vcpu_core.specs.declared.lane.Lane.{Lane};
+ghost use Rattle.vcpu_core.specs.declared.lane.Phase.{Phase};
+ghost use Rattle.vcpu_core.specs.First.{first_world, first_papers, first_lanes, first_paper, first_lane};
+ghost use Rattle.vcpu_core.specs.Waits.{left_of};
+ghost use Rattle.vcpu_core.specs.World.{World, go_of, went_of, go_all, gone, went_in, IsPlaced, IsReady, IsLaneReady, HasView, paper_in, blank_paper, lane_of, view_of};
+
+use crate::lane::{Lane, Phase, Went, fill, look_up, mend, turn};
+use chain_log::entry::LogEntry;
+use fc_numbers::machine::End;
+use fc_numbers::memory::NoMemory;
+use fc_numbers::places::{VcpuNo, ViewNo};
+use function_table::table::Table;
+use guest_board::board::Board;
+use guest_board::seen::Windows;
+use guest_image::image::Image;
+use guest_image::setup::Setup;
+use std::alloc::Global;
+use std::marker::Model;
+use std::mem;
+use view_file::views::Views;
+use view_store::view::View;
+
+/// A board whose vCPUs fetch from views. In contracts it is the view machine: the profile's views, the groups of the
+/// text, the board, the views with their logs, and the lanes.
+#[derive(Drop)]
+pub struct Core<'a> {
+    profile: &'a Views,
+    table: &'a Table,
+    board: Board,
+    views: Vec<View>,
+    lanes: Vec<Lane>,
+}
+
+impl<'a> Model for Core<'a> {
+    ghost use Rattle.vcpu_core.specs.World.{World};
+
+    ghost Value = { World };
+
+    ghost use Rattle.vcpu_core.specs.Whole.{world_of, IsWhole};
+
+    ghost view = { world_of };
+
+    ghost invariant = { IsWhole };
+}
+
+/// One event by the lane's phase.
+#[tactic(auto, unfolding(crate::specs::World::gone, crate::specs::World::went_in))]
+fn event(
+    profile: &Views,
+    table: &Table,
+    board: &mut Board,
+    views: &mut [View],
+    lane: &mut Lane,
+) -> Went
+    requires number { lane.old.vcpu < length board.old.state.vcpus }
+    requires view { lane.old.windows.view < length views.old }
+    requires paper { (paper_in views.old lane.old.windows.view).number ≡ lane.old.windows.view }
+    requires groups { (paper_in views.old lane.old.windows.view).groups ≡ table.now }
+    requires placed { IsPlaced table.now lane.old lane.old.phase }
+    requires few { length profile.now.apps ≤ APPS_MOST }
+    ensures after { (lanes : List Lane) →
+        (let old : World = record { profile = profile.now; groups = table.now; board = board.old; papers = views.old; lanes = lanes } in
+        let new : World = record { profile = profile.now; groups = table.now; board = board.new; papers = views.new; lanes = slice_set lanes lane.old.vcpu lane.new } in
+        new ≡ gone old lane.old.vcpu lane.old lane.old.phase) }
+    ensures answer { (lanes : List Lane) →
+        (let old : World = record { profile = profile.now; groups = table.now; board = board.old; papers = views.old; lanes = lanes } in
+        result ≡ went_in old lane.old.vcpu lane.old lane.old.phase) }
+{
+    match mem::replace(&mut lane.phase, Phase::Running) {
+        Phase::Running => turn(board, profile, lane),
+        Phase::Wants(n) => {
+            let view = lane.windows.view.0 as usize;
+            fill(&views[view], n, lane);
+            Went::Erased
+        }
+        Phase::Trapped(trap) => {
+            look_up(table, trap, lane);
+            Went::Erased
+        }
+        Phase::Looked(looked) => {
+            let view = lane.windows.view.0 as usize;
+            mend(&mut views[view], table, looked, lane);
+            Went::Erased
+        }
+    }
+}
+
+impl<'a> Core<'a> {
+    /// The bytes that the guest wrote.
+    pub fn console(&self) -> &[u8]
+        ensures { result.now ≡ self.now.board.state.console }
+    {
+        self.board.console()
+    }
+
+    /// How the run ended, if it has.
+    pub fn end(&self) -> Option<End>
+        ensures { result ≡ self.now.board.state.end }
+    {
+        self.board.end()
+    }
+
+    /// The entries of view v so far, in the order in which the groups were restored.
+    pub fn log(&self, v: ViewNo) -> &[LogEntry]
+        requires { v < length self.now.papers }
+        ensures { result.now ≡ (paper_in self.now.papers v).log }
+    {
+        self.views[v.0 as usize].log()
+    }
+
+    /// One event of vCPU i, by the phase of its lane: a step, a need, a trap, a fill, a lookup or a mend; `Over` exactly
+    /// where the vCPU may not step, and then nothing changes. At most nine events of a vCPU stand between two of its steps.
+    #[tactic(auto, using(crate::proofs::Waiting::go_left))]
+    pub fn go(&mut self, i: VcpuNo) -> Went
+        ensures after { self.new ≡ go_of self.old i }
+        ensures answer { result ≡ went_of self.old i }
+        ensures nearer { result ≢ Went.Over → left_of self.new i < left_of self.old i }
+    {
+        self.make_event(i)
+    }
+
+    #[tactic(auto, unfolding(crate::specs::World::go_of, crate::specs::World::went_of))]
+    fn make_event(&mut self, i: VcpuNo) -> Went
+        ensures after { self.new ≡ go_of self.old i }
+        ensures answer { result ≡ went_of self.old i }
+        ensures ready { IsReady self.old }
+        ensures counts { length self.old.board.state.counts ≡ length self.old.board.state.vcpus }
+    {
+        if !self.board.may(i) {
+            return Went::Over;
+        }
+        let at = i.0 as usize;
+        let _laid = self.board.ram().text();
+        event(
+            self.profile,
+            self.table,
+            &mut self.board,
+            &mut self.views,
+            &mut self.lanes[at],
+        )
+    }
+}

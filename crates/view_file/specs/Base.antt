@@ -1,0 +1,36 @@
+-- The base of a view: the groups that hold a function listed for its app or shared; every group, for the full view 0.
+-- The rule is this project's own: a view may run whole groups of joined functions.
+use Rattle.std.specs.Prelude.{ℕ, zero, suc, ◌-◌, ◌==◌, ◌||◌, ◌++◌, Bool, List, [], ◌∷◌, map}
+use Rattle.std.specs.List.{list_any, flat_map, range_with_len}
+use Rattle.function_table.specs.Groups.{Groups, group_in, groups_count}
+use Rattle.view_file.specs.declared.views.App.{App}
+use Rattle.view_file.specs.declared.views.Views.{Views}
+
+-- the offset is a function's
+abbrev pub is_function : List ℕ → ℕ → Bool
+is_function functions offset = list_any (λ start. start == offset) functions
+
+-- the functions of app n, counted from 0
+abbrev pub functions_of : List App → ℕ → List ℕ
+functions_of [] n = []
+functions_of (app ∷ apps) zero = app.functions
+functions_of (app ∷ apps) (suc n) = functions_of apps n
+
+-- the functions listed for view n, from 1 on: those of its app and the shared ones
+abbrev pub listed_for : Views → ℕ → List ℕ
+listed_for v number = functions_of v.apps (number - 1) ++ v.shared
+
+-- every listed function
+abbrev pub all_listed : Views → List ℕ
+all_listed v = v.shared ++ flat_map (λ app. app.functions) v.apps
+
+-- group n holds one of these functions
+abbrev pub holds_one : List ℕ → List ℕ → ℕ → Bool
+holds_one starts functions group = list_any (λ offset. group_in starts offset == group) functions
+
+abbrev pub is_based : Views → Groups → ℕ → ℕ → Bool
+is_based v t number group = number == 0 || holds_one t.starts (listed_for v number) group
+
+-- one truth per group, in order
+abbrev pub base_of : Views → Groups → ℕ → List Bool
+base_of v t number = map (is_based v t number) (range_with_len 0 (groups_count t))

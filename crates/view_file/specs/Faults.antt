@@ -1,0 +1,15 @@
+-- How faults of views are printed: the number, the name, and the offset that an unknown function has.
+-- Numbers and names are those of this project's table of faults.
+use Rattle.std.specs.Prelude.{ℕ, List, ◌++◌, codes}
+use Rattle.std.specs.Fmt.{decimal}
+use Rattle.view_file.specs.declared.fault.ViewFault.{ViewFault}
+use Rattle.view_file.specs.declared.fault.ViewFault.TheVariants.{NotJson, Shape, OtherText, UnknownFunction, TooManyApps, BadName, NoMemory}
+
+abbrev pub shown_fault : ViewFault → List ℕ
+shown_fault NotJson = codes "1 NotJson"
+shown_fault Shape = codes "2 Shape"
+shown_fault OtherText = codes "3 OtherText"
+shown_fault (UnknownFunction n) = codes "4 UnknownFunction " ++ decimal n
+shown_fault TooManyApps = codes "5 TooManyApps"
+shown_fault BadName = codes "6 BadName"
+shown_fault NoMemory = codes "7 NoMemory"

@@ -1,0 +1,6 @@
+pub mod Base
+pub mod Faults
+pub mod Fits
+pub mod Least
+pub mod Named
+pub mod Written

@@ -1,0 +1,106 @@
+-- What a views file writes: {"apps":[{"functions":[0,12],"name":"sh"}],"shared":[28],"text":"<64 digits>","version":1}.
+-- The form is this project's own; JSON is RFC 8259, as serde_json reads it. Keys, offsets and apps come in any order.
+use Rattle.std.specs.Prelude.{◌≡◌, ℕ, ◌^◌, ◌==◌, ◌&&◌, nat_lt, nat_le, Bool, if◌then◌else◌, List, [], ◌∷◌, length, map, codes, Option, Some, None, option_and_then, Result, Ok, Err}
+use Rattle.std.specs.List.{list_all}
+use Rattle.std.specs.Result.{result_ok}
+use Rattle.std.specs.Set.{distinct_count}
+use Rattle.std.specs.Str.{bytes_eq}
+use Rattle.hex.specs.Hex.{decode_sized}
+use Rattle.serde_json.specs.Data.{Data}
+use Rattle.serde_json.specs.Find.{get}
+use Rattle.fc_numbers.specs.Names.{is_app_name}
+use Rattle.json_fields.specs.Fields.{json_of, has_only_keys, whole_of, text_of, array_of, each_of}
+use Rattle.view_file.specs.declared.views.TheConstants.{APPS_MOST}
+use Rattle.view_file.specs.declared.fault.ViewFault.{ViewFault}
+use Rattle.view_file.specs.declared.fault.ViewFault.TheVariants.{NotJson, Shape, OtherText, UnknownFunction, BadName, TooManyApps, NoMemory}
+use Rattle.view_file.specs.declared.written.Written.{Written}
+use Rattle.view_file.specs.declared.written.WrittenApp.{WrittenApp}
+
+-- the member at a key, in the form that f reads
+abbrev pub member_as : {A : Type 0} → (Data → Option A) → List ℕ → Data → Option A
+member_as f key d = option_and_then f (get key d)
+
+abbrev pub if_offset : ℕ → Option ℕ
+if_offset n = if nat_lt n (2 ^ 32) then Some n else None
+
+-- an offset in text
+unfoldable pub offset_of : Data → Option ℕ
+offset_of d = option_and_then if_offset (whole_of d)
+
+unfoldable pub offsets_of : Data → Option (List ℕ)
+offsets_of d = option_and_then (each_of offset_of) (array_of d)
+
+-- the 32 bytes of 64 hexadecimal digits
+unfoldable pub digest_of : Data → Option (List ℕ)
+digest_of d = option_and_then (λ digits. result_ok (decode_sized digits 32)) (text_of d)
+
+-- a step that is taken where the step before gave something
+infixl 10 ◌>>=◌
+abbrev pub ◌>>=◌ : {A B : Type 0} → Option A → (A → Option B) → Option B
+None >>= f = None
+(Some x) >>= f = f x
+
+abbrev pub when : Bool → Option Bool
+when b = if b then Some b else None
+
+-- an app: its name, whatever it is, and its functions
+unfoldable pub app_of : Data → Option WrittenApp
+app_of d = do
+  known ← when (has_only_keys (codes "functions" ∷ codes "name" ∷ []) d)
+  name ← member_as text_of (codes "name") d
+  functions ← member_as offsets_of (codes "functions") d
+  Some (record { name = name; functions = functions })
+
+unfoldable pub apps_of : Data → Option (List WrittenApp)
+apps_of d = option_and_then (each_of app_of) (array_of d)
+
+abbrev pub is_one : ℕ → Option Bool
+is_one n = when (n == 1)
+
+-- a views file of version 1
+unfoldable pub written_of : Data → Option Written
+written_of d = do
+  known ← when (has_only_keys (codes "apps" ∷ codes "shared" ∷ codes "text" ∷ codes "version" ∷ []) d)
+  version ← option_and_then is_one (member_as whole_of (codes "version") d)
+  text ← member_as digest_of (codes "text") d
+  shared ← member_as offsets_of (codes "shared") d
+  apps ← member_as apps_of (codes "apps") d
+  Some (record { text = text; shared = shared; apps = apps })
+
+abbrev pub names_of : List WrittenApp → List (List ℕ)
+names_of apps = map (λ app. app.name) apps
+
+-- app names, each of them once
+abbrev pub are_names : List (List ℕ) → Bool
+are_names names = list_all is_app_name names && (distinct_count bytes_eq names == length names)
+
+abbrev pub or_shape : Option Written → Result Written ViewFault
+or_shape None = Err Shape
+or_shape (Some w) = Ok w
+
+abbrev pub or_not_json : Option Data → Result Written ViewFault
+or_not_json None = Err NotJson
+or_not_json (Some d) = or_shape (written_of d)
+
+-- what the bytes write, whatever the names are
+unfoldable pub shaped_of : List ℕ → Result Written ViewFault
+shaped_of bytes = or_not_json (json_of bytes)
+
+-- the same where each app has a name of its own and there are few enough apps
+abbrev pub named_well : Result Written ViewFault → Result Written ViewFault
+named_well (Err fault) = Err fault
+named_well (Ok w) = if are_names (names_of w.apps) then (if nat_le (length w.apps) APPS_MOST then Ok w else Err TooManyApps) else Err BadName
+
+-- what the bytes write, or the first fault
+abbrev pub writing_of : List ℕ → Result Written ViewFault
+writing_of bytes = named_well (shaped_of bytes)
+
+-- a call that failed: by this fault, which is the first one, or for want of memory
+abbrev pub Fails : ViewFault → Result Written ViewFault → Type 0
+Fails NotJson written = written ≡ Err NotJson
+Fails Shape written = written ≡ Err Shape
+Fails BadName written = written ≡ Err BadName
+Fails TooManyApps written = written ≡ Err TooManyApps
+Fails NoMemory written = Unit {0}
+Fails OtherText written = ⊥
+Fails (UnknownFunction n) written = ⊥

@@ -1,0 +1,74 @@
+//! The mask of a text: the halfwords of some groups, and zeros.
+
+ghost use Rattle.std.specs.Prelude.{◌≡◌, ◌≤◌, ◌<◌, ◌-◌, ◌*◌, ◌/◌, ◌%◌, ◌^◌, ◌&&◌, ◌==◌, ℕ, false, length, nat_lt, slice_index, slice_index_or, if◌then◌else◌, IfOk};
+ghost use Rattle.function_table.specs.Groups.{IsGroups, IsRangeOf, group_in, groups_count, half_of, is_between};
+
+use fc_numbers::memory::NoMemory;
+use fc_numbers::places::{Gpa, GroupNo};
+use function_table::halves::half;
+use function_table::table::Table;
+use std::alloc::Global;
+
+/// Writes the original halfwords from number `from` up to, and without, `to` into the pages.
+fn restore(pages: &mut Vec<u16>, text: &[u8], from: usize, to: usize)
+    requires from { from ≤ to }
+    requires to { to ≤ length pages.old.items }
+    requires few { length pages.old.items < 2 ^ 32 }
+    ensures each { (n : ℕ) → slice_index pages.new.items n
+        ≡ (if is_between from to n then half_of text.now n else slice_index pages.old.items n) }
+    ensures len { length pages.new.items ≡ length pages.old.items }
+{
+    for n in from..to {
+        pages[n] = half(text, n);
+    }
+}
+
+/// The number of the halfword at a place, counted from the start of text.
+fn half_number(start: Gpa, place: Gpa) -> usize
+    requires { start ≤ place }
+    ensures { result ≡ (place - start) / 2 }
+{
+    ((place.0 - start.0) / 2) as usize
+}
+
+/// Restores the halfwords of group g.
+pub(crate) fn restore_group(pages: &mut Vec<u16>, text: &[u8], table: &Table, g: GroupNo)
+    requires group { g < groups_count table.now }
+    requires size { table.now.size ≡ length text.now }
+    requires long { 2 * length pages.old.items ≡ length text.now }
+    ensures each { (n : ℕ) → slice_index pages.new.items n
+        ≡ (if group_in table.now.starts (2 * n) == g then half_of text.now n else slice_index pages.old.items n) }
+    ensures len { length pages.new.items ≡ length pages.old.items }
+{
+    let start = table.text().start;
+    let span = table.range(g);
+    restore(
+        pages,
+        text,
+        half_number(start, span.start),
+        half_number(start, span.end),
+    );
+}
+
+/// The halfwords of the marked groups, and zeros.
+pub(crate) fn mask(
+    alloc: Global,
+    text: &[u8],
+    table: &Table,
+    kept: &[bool],
+) -> Result<Vec<u16>, NoMemory>
+    requires size { table.now.size ≡ length text.now }
+    requires marks { length kept.now ≡ groups_count table.now }
+    ensures len { IfOk result (λ pages. 2 * length pages.items ≡ length text.now) }
+    ensures each { IfOk result (λ pages. (n : ℕ) → slice_index pages.items n
+        ≡ (if slice_index_or kept.now (group_in table.now.starts (2 * n)) false then half_of text.now n else 0)) }
+{
+    let groups = table.groups();
+    let mut pages = vec![in alloc; 0u16; text.len() / 2]?;
+    for g in 0..groups {
+        if kept[g as usize] {
+            restore_group(&mut pages, text, table, GroupNo(g));
+        }
+    }
+    Ok(pages)
+}

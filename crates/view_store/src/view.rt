@@ -1,0 +1,152 @@
+//! One view.
+
+ghost use Rattle.std.specs.Prelude.{◌≡◌, ◌≤◌, ◌<◌, ◌+◌, ◌*◌, ◌↔◌, [], ℕ, false, length, slice_index, slice_index_or, if◌then◌else◌, IfOk, IsTrue};
+ghost use Rattle.guest_image.specs.Accepted.{IsImage};
+ghost use Rattle.function_table.specs.Groups.{groups_count};
+ghost use Rattle.view_store.specs.Paged.{IsPaper, is_present, masked, pair_of, patched};
+
+use crate::pages::{mask, restore_group};
+use chain_log::entry::LogEntry;
+use fc_numbers::memory::NoMemory;
+use fc_numbers::pair::Pair;
+use fc_numbers::places::{GroupNo, ViewNo};
+use fc_numbers::shared::SharedBytes;
+use function_table::table::Table;
+use guest_image::image::Image;
+use std::alloc::Global;
+use std::marker::Model;
+
+/// What a patch did.
+#[derive(Debug, Clone, Copy, PartialEq, Eq)]
+pub enum Patched {
+    /// The group was absent; it was restored and logged.
+    Recovered,
+    /// The group was present, and nothing was changed.
+    WasPresent,
+}
+
+/// One view. In contracts it is its number, the text and its groups, the base and the log.
+#[derive(Drop)]
+pub struct View {
+    number: ViewNo,
+    text: SharedBytes,
+    table: Table,
+    pages: Vec<u16>,
+    base: Vec<bool>,
+    present: Vec<bool>,
+    log: Vec<LogEntry>,
+}
+
+impl Model for View {
+    ghost use Rattle.view_store.specs.Paged.{Paper};
+    ghost use Rattle.view_store.specs.PagedIn.{paper_of, IsPaged};
+
+    ghost Value = { Paper };
+
+    ghost view = { paper_of };
+
+    ghost invariant = { IsPaged };
+}
+
+impl View {
+    /// View `view` of this image, with an empty log; the base has one truth for each group.
+    pub fn build(
+        alloc: Global,
+        image: &Image,
+        table: &Table,
+        view: ViewNo,
+        base: Vec<bool>,
+    ) -> Result<View, NoMemory>
+        requires table { table.now.size ≡ length image.now.text }
+        requires base { length base.items ≡ groups_count table.now }
+        ensures { IfOk result (λ v. v ≡ record { number = view; text = image.now.text; groups = table.now; base = base.items; log = [] }) }
+    {
+        let text = image.text.share()?;
+        let table = table.share()?;
+        let pages = mask(alloc, text.as_slice(), &table, base.as_slice())?;
+        let present = Vec::from_slice(alloc, base.as_slice())?;
+        let log = Vec::with_capacity(alloc, present.len())?;
+        Ok(View {
+            number: view,
+            text,
+            table,
+            pages,
+            base,
+            present,
+            log,
+        })
+    }
+
+    /// The view's number.
+    pub fn number(&self) -> ViewNo
+        ensures value { result ≡ self.now.number }
+        ensures lawful { IsPaper self.now }
+    {
+        self.number
+    }
+
+    /// The halfwords number `at` and `at + 1` of the pages, 0 past the end of text.
+    pub fn pair(&self, at: u32) -> Pair
+        requires { 2 * at < self.now.groups.size }
+        ensures { result ≡ pair_of self.now at }
+    {
+        let first = at as usize;
+        let second = if first + 1 < self.pages.len() {
+            self.pages[first + 1]
+        } else {
+            0
+        };
+        Pair {
+            at,
+            halves: [self.pages[first], second],
+        }
+    }
+
+    /// The mask, halfword by halfword.
+    pub fn pages(&self) -> &[u16]
+        ensures long { 2 * length result.now ≡ length self.now.text }
+        ensures each { (n : ℕ) → slice_index result.now n ≡ masked self.now n }
+    {
+        &self.pages
+    }
+
+    /// Whether the group is in the base or logged.
+    pub fn present(&self, g: GroupNo) -> bool
+        requires { g < groups_count self.now.groups }
+        ensures { result ≡ is_present self.now.base self.now.log g }
+    {
+        self.present[g.0 as usize]
+    }
+
+    /// The entries of the restored groups, in the order in which they were restored.
+    pub fn log(&self) -> &[LogEntry]
+        ensures value { result.now ≡ self.now.log }
+        ensures lawful { IsPaper self.now }
+    {
+        &self.log
+    }
+
+    /// Restores the whole group of the entry and appends the entry, where the group is absent.
+    #[tactic(auto, using(crate::proofs::PageLemmas::patched_keeps))]
+    pub fn patch(&mut self, entry: LogEntry) -> Patched
+        requires view { entry.view ≡ self.old.number }
+        requires group { entry.group < groups_count self.old.groups }
+        ensures after { self.new ≡ patched self.old entry }
+        ensures number { self.new.number ≡ self.old.number }
+        ensures groups { self.new.groups ≡ self.old.groups }
+        ensures answer { result ≡ (if is_present self.old.base self.old.log entry.group then Patched.WasPresent else Patched.Recovered) }
+    {
+        let group = entry.group;
+        let mark = group.0 as usize;
+        if self.present[mark] {
+            return Patched::WasPresent;
+        }
+        restore_group(&mut self.pages, self.text.as_slice(), &self.table, group);
+        self.present[mark] = true;
+        match self.log.push(entry) {
+            Ok(()) => {}
+            Err(_) => unreachable!(),
+        }
+        Patched::Recovered
+    }
+}
