@@ -141,9 +141,9 @@ unfolding first_vcpus
 vcpus-long entry zero = refl
 vcpus-long entry (suc n) = simp length-append (omega (arith, vcpus-long entry n))
 
-first-ready : (c : Config) → IsConfig c → IsReady (first_world c)
+pub first_ready : (c : Config) → IsConfig c → IsReady (first_world c)
 unfolding first_world first_state
-first-ready c ok =
+first_ready c ok =
     let memory : IsLaid (first_ram c.image c.setup.ram) × HasText (first_ram c.image c.setup.ram) c.image.base c.image.text = first-memory c ok in
     let few : length (first_papers c (length c.views.apps + 1)) ≡ length c.views.apps + 1 = papers-long c (length c.views.apps + 1) in
     let view : ℕ = view_named c.views c.setup.start in
@@ -197,7 +197,7 @@ first-truthful c k h =
 
 pub first-kept : (c : Config) → IsConfig c → IsKept c (first_world c)
 first-kept c ok = record {
-  ready = first-ready c ok;
+  ready = first_ready c ok;
   profile = first-profile c;
   groups = first-groups c;
   board = first-full c ok;

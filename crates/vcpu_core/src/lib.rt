@@ -13,3 +13,6 @@
 pub mod lane;
 pub mod laws;
 pub mod machine;
+mod open;
+#[cfg(test)]
+mod tests;

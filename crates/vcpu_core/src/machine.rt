@@ -15,6 +15,7 @@ ghost use Rattle.vcpu_core.specs.Waits.{left_of};
 ghost use Rattle.vcpu_core.specs.World.{World, go_of, went_of, go_all, gone, went_in, IsPlaced, IsReady, IsLaneReady, HasView, paper_in, blank_paper, lane_of, view_of};
 
 use crate::lane::{Lane, Phase, Went, fill, look_up, mend, turn};
+use crate::open::{start_lanes, start_views};
 use chain_log::entry::LogEntry;
 use fc_numbers::machine::End;
 use fc_numbers::memory::NoMemory;
@@ -96,6 +97,34 @@ fn event(
 }
 
 impl<'a> Core<'a> {
+    /// The core before the first event of a run of this image by this setup, under these views: each view has its base and
+    /// an empty log, each vCPU the view of the setup's first name. `table` is the image's groups.
+    #[tactic(auto, unfolding(crate::specs::First::first_world), using(crate::proofs::Start::first_ready))]
+    pub fn open(
+        alloc: Global,
+        image: &Image,
+        setup: &Setup,
+        profile: &'a Views,
+        table: &'a Table,
+    ) -> Result<Core<'a>, NoMemory>
+        requires image { IsImage image.now }
+        requires setup { IsSetupFor image.now setup.now }
+        requires views { IsViewsFor profile.now image.now }
+        requires table { table.now ≡ groups_of image.now }
+        ensures { IfOk result (λ core. core ≡ first_world (record { image = image.now; setup = setup.now; views = profile.now })) }
+    {
+        let board = Board::open(alloc, image, setup)?;
+        let views = start_views(alloc, image, profile, table)?;
+        let lanes = start_lanes(alloc, profile.choose(setup.start.as_ref()), setup.vcpus)?;
+        Ok(Core {
+            profile,
+            table,
+            board,
+            views,
+            lanes,
+        })
+    }
+
     /// The bytes that the guest wrote.
     pub fn console(&self) -> &[u8]
         ensures { result.now ≡ self.now.board.state.console }
@@ -108,6 +137,13 @@ impl<'a> Core<'a> {
         ensures { result ≡ self.now.board.state.end }
     {
         self.board.end()
+    }
+
+    /// How many views there are: the full view, and one for each app.
+    pub fn views(&self) -> usize
+        ensures { result ≡ length self.now.papers }
+    {
+        self.views.len()
     }
 
     /// The entries of view v so far, in the order in which the groups were restored.

@@ -1,0 +1,63 @@
+//! A core before the first event.
+
+ghost use Rattle.std.specs.Prelude.{◌≡◌, ◌≤◌, ◌<◌, ◌+◌, ◌*◌, ◌^◌, ℕ, IfOk, length};
+ghost use Rattle.function_table.specs.Groups.{groups_of, groups_count};
+ghost use Rattle.guest_image.specs.Accepted.{IsImage};
+ghost use Rattle.guest_image.specs.declared.setup.Setup.{Setup};
+ghost use Rattle.view_file.specs.declared.views.TheConstants.{APPS_MOST};
+ghost use Rattle.view_file.specs.Fits.{IsViewsFor};
+ghost use Rattle.vcpu_core.specs.First.{first_papers, first_lanes};
+
+use crate::lane::{Lane, Phase};
+use fc_numbers::memory::NoMemory;
+use fc_numbers::places::{VcpuNo, ViewNo};
+use function_table::table::Table;
+use guest_board::seen::Windows;
+use guest_image::image::Image;
+use std::alloc::Global;
+use view_file::views::Views;
+use view_store::view::View;
+
+/// A view for each app and the full view, each with its base and an empty log.
+#[tactic(auto, unfolding(crate::specs::First::first_papers), using(crate::proofs::Bases::base_of_long))]
+pub(crate) fn start_views(
+    alloc: Global,
+    image: &Image,
+    profile: &Views,
+    table: &Table,
+) -> Result<Vec<View>, NoMemory>
+    requires image { IsImage image.now }
+    requires views { IsViewsFor profile.now image.now }
+    requires table { table.now ≡ groups_of image.now }
+    ensures { (setup : Setup) → IfOk result (λ views.
+        views.items ≡ first_papers (record { image = image.now; setup = setup; views = profile.now }) (length profile.now.apps + 1)) }
+{
+    let count = profile.apps.as_slice().len() as u8 + 1;
+    let mut views = Vec::new(alloc);
+    for v in 0..count {
+        let view = ViewNo(v);
+        let base = profile.base(alloc, view, table)?;
+        views.push(View::build(alloc, image, table, view, base)?)?;
+    }
+    Ok(views)
+}
+
+/// Lanes of this view that run and hold nothing.
+#[tactic(auto, unfolding(crate::specs::First::first_lanes))]
+pub(crate) fn start_lanes(alloc: Global, view: ViewNo, count: u8) -> Result<Vec<Lane>, NoMemory>
+    ensures { IfOk result (λ lanes. lanes.items ≡ first_lanes view count) }
+{
+    let mut lanes = Vec::new(alloc);
+    for i in 0..count {
+        lanes.push(Lane {
+            vcpu: VcpuNo(i),
+            windows: Windows {
+                view,
+                held: None,
+                cleared: None,
+            },
+            phase: Phase::Running,
+        })?;
+    }
+    Ok(lanes)
+}
