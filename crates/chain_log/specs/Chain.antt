@@ -6,7 +6,7 @@ use Rattle.std.specs.Option.{option_to_list}
 use Rattle.fc_numbers.specs.declared.machine.Mode.{Mode}
 use Rattle.fc_numbers.specs.declared.machine.Access.{Access}
 use Rattle.fc_numbers.specs.declared.machine.Access.TheVariants.{Fetch, Load}
-use Rattle.fc_numbers.specs.declared.machine.Width.TheVariants.{B8}
+use Rattle.fc_numbers.specs.declared.machine.Width.TheVariants.{Doubleword}
 use Rattle.fc_numbers.specs.Numbers.{get_reg}
 use Rattle.guest_ram.specs.Ram.{Ram, is_inside, is_text, value}
 use Rattle.rv_csr.specs.Csrs.{Csrs}
@@ -34,7 +34,7 @@ code_at ram csr mode va = option_and_then (λ place. if is_text ram place then S
 
 -- the 8 bytes at an address
 unfoldable pub word_at : Ram → Csrs → Mode → ℕ → Option ℕ
-word_at ram csr mode va = option_and_then (λ place. if is_inside ram place then Some (value ram place B8) else None) (place_of ram csr mode Load va)
+word_at ram csr mode va = option_and_then (λ place. if is_inside ram place then Some (value ram place Doubleword) else None) (place_of ram csr mode Load va)
 
 -- so many bytes below an address
 abbrev pub below : ℕ → ℕ → ℕ

@@ -66,7 +66,7 @@ fn word_at(ram: &GuestRam, csr: &CsrFile, mode: Mode, va: Va) -> Option<u64>
     ensures { result ≡ word_at ram.now csr.now mode va }
 {
     let place = place_of(ram, csr, mode, Access::Load, va)?;
-    match ram.load(place, Width::B8) {
+    match ram.load(place, Width::Doubleword) {
         Ok(word) => Some(word),
         Err(_) => None,
     }

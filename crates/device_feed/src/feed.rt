@@ -5,7 +5,7 @@ ghost use Rattle.guest_image.specs.Accepted.{IsSetup};
 ghost use Rattle.device_feed.specs.Devices.{first_devices, lines_of, is_raised, soft_of, timer_of, with_soft, with_timer, due_key, with_key_taken};
 ghost use Rattle.device_feed.specs.Calls.{Called, called, answered, is_known, sent};
 
-use crate::lists::{DueKey, VCPUS_MOST, due_count, first_due, keys_of, levels_of};
+use crate::lists::{DueKey, Levels, VCPUS_MOST, due_count, first_due, keys_of, levels_of};
 use crate::masks::{are_vcpus, set_all, set_named};
 use crate::sbi::{
     ALL_VCPUS, CONSOLE_GETCHAR, CONSOLE_PUTCHAR, INVALID_PARAM, IPI, NO_KEY, NOT_SUPPORTED,
@@ -43,7 +43,7 @@ const A7: u8 = 17;
 #[derive(Drop)]
 pub struct Feed {
     events: Vec<Event>,
-    levels: Vec<[bool; VCPUS_MOST]>,
+    levels: Vec<Levels>,
     keys: Vec<DueKey>,
     taken: usize,
     soft: Vec<bool>,

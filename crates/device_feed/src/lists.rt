@@ -13,6 +13,9 @@ use std::alloc::Global;
 /// The most vCPUs of a run.
 pub const VCPUS_MOST: usize = 8;
 
+/// The external lines of all vCPUs, by their numbers.
+pub type Levels = [bool; VCPUS_MOST];
+
 /// A key, and the clock from which it is due.
 #[derive(Debug, Clone, Copy, PartialEq, Eq)]
 pub struct DueKey {
@@ -40,7 +43,7 @@ fn set_level(levels: &mut [bool], what: What)
 }
 
 /// The external lines of all vCPUs after each of the events.
-pub fn levels_of(alloc: Global, events: &[Event]) -> Result<Vec<[bool; VCPUS_MOST]>, NoMemory>
+pub fn levels_of(alloc: Global, events: &[Event]) -> Result<Vec<Levels>, NoMemory>
     ensures { IfOk result (λ levels. levels.items ≡ levels_from no_levels events.now) }
 {
     let mut levels = [false; VCPUS_MOST];

@@ -20,10 +20,10 @@ pub enum Access {
 /// How many bytes an access has: 1, 2, 4 or 8.
 #[derive(Debug, Clone, Copy, PartialEq, Eq)]
 pub enum Width {
-    B1,
-    B2,
-    B4,
-    B8,
+    Byte,
+    Halfword,
+    Word,
+    Doubleword,
 }
 
 /// Why the monitor stops a run by name.

@@ -23,7 +23,10 @@ pub struct HostStore<'a, R: Files> {
 
 impl<'a, R: Files> HostStore<'a, R> {
     /// The files that this runtime reaches, with no fault yet.
-    pub fn new(rt: &'a R) -> HostStore<'a, R> {
+    pub fn new(rt: &'a R) -> HostStore<'a, R>
+        ensures reads { result.reads.count ≡ 0 }
+        ensures writes { result.writes.count ≡ 0 }
+    {
         HostStore {
             rt,
             reads: FaultCount::new(),

@@ -3,7 +3,7 @@
 -- manual, "Virtual Address Translation Process"; unprivileged manual, "Expanded Instruction-Length Encoding").
 use Rattle.std.specs.Prelude.{ℕ, ◌+◌, ◌-◌, ◌%◌, ◌^◌, ◌==◌, Bool, true, false, not, nat_eq, if◌then◌else◌, Option, Some, None}
 use Rattle.fc_numbers.specs.declared.machine.Access.TheVariants.{Fetch}
-use Rattle.fc_numbers.specs.declared.machine.Width.TheVariants.{B2}
+use Rattle.fc_numbers.specs.declared.machine.Width.TheVariants.{Halfword}
 use Rattle.fc_numbers.specs.declared.machine.Mode.{Mode}
 use Rattle.fc_numbers.specs.declared.machine.Mode.TheVariants.{Vu, Vs}
 use Rattle.fc_numbers.specs.declared.machine.Stop.TheVariants.{KernelOutsideText, TableInText, TextSplit}
@@ -36,7 +36,7 @@ half_place v ram va = half_by v.mode va (resolved v ram Fetch va)
 
 -- the halfword of memory that holds a place
 abbrev pub half_at : Ram → ℕ → ℕ
-half_at ram p = value ram (p - p % 2) B2
+half_at ram p = value ram (p - p % 2) Halfword
 
 -- a wide instruction is split: its halves are not both in text side by side, nor both outside text
 abbrev pub is_split : Bool → ℕ → Bool → ℕ → Bool

@@ -4,14 +4,14 @@ use Rattle.std.specs.Prelude.{ℕ, ◌+◌, ◌*◌, ◌^◌, List, length, ◌+
 use Rattle.std.specs.Int.{bytes_low_first}
 use Rattle.std.proofs.Common.{zero, suc}
 use Rattle.fc_numbers.specs.declared.machine.Width.{Width}
-use Rattle.fc_numbers.specs.declared.machine.Width.TheVariants.{B1, B2, B4, B8}
+use Rattle.fc_numbers.specs.declared.machine.Width.TheVariants.{Byte, Halfword, Word, Doubleword}
 
 -- how many bytes an access has
 abbrev pub count_of : Width → ℕ
-count_of B1 = 1
-count_of B2 = 2
-count_of B4 = 4
-count_of B8 = 8
+count_of Byte = 1
+count_of Halfword = 2
+count_of Word = 4
+count_of Doubleword = 8
 
 -- the sum of byte k times 256^k, for the n bytes from `at` on
 unfoldable pub value_at : List ℕ → ℕ → ℕ → ℕ

@@ -10,10 +10,10 @@ pub fn count(width: Width) -> usize
     ensures { result ≡ count_of width }
 {
     match width {
-        Width::B1 => 1,
-        Width::B2 => 2,
-        Width::B4 => 4,
-        Width::B8 => 8,
+        Width::Byte => 1,
+        Width::Halfword => 2,
+        Width::Word => 4,
+        Width::Doubleword => 8,
     }
 }
 
@@ -60,10 +60,10 @@ pub(crate) fn value_of(bytes: &[u8], at: usize, width: Width) -> u64
     ensures { result ≡ value_at bytes.now at (count_of width) }
 {
     match width {
-        Width::B1 => bytes[at] as u64,
-        Width::B2 => half_at(bytes, at) as u64,
-        Width::B4 => word_at(bytes, at) as u64,
-        Width::B8 => double_at(bytes, at),
+        Width::Byte => bytes[at] as u64,
+        Width::Halfword => half_at(bytes, at) as u64,
+        Width::Word => word_at(bytes, at) as u64,
+        Width::Doubleword => double_at(bytes, at),
     }
 }
 
@@ -84,9 +84,9 @@ pub(crate) fn put(bytes: &mut [u8], at: usize, width: Width, v: u64)
 {
     let low = v.to_le_bytes();
     match width {
-        Width::B1 => bytes[at] = low[0],
-        Width::B2 => overwrite(bytes, at, &low[..2]),
-        Width::B4 => overwrite(bytes, at, &low[..4]),
-        Width::B8 => overwrite(bytes, at, &low),
+        Width::Byte => bytes[at] = low[0],
+        Width::Halfword => overwrite(bytes, at, &low[..2]),
+        Width::Word => overwrite(bytes, at, &low[..4]),
+        Width::Doubleword => overwrite(bytes, at, &low),
     }
 }

@@ -12,7 +12,7 @@
 #![tactic(auto)]
 
 ghost use Rattle.std.specs.Prelude.{◌≡◌, ◌≤◌, ◌<◌, ◌+◌, ◌-◌, ◌%◌, ◌^◌, length, true, false, IfOk, MatchOption};
-ghost use Rattle.fc_numbers.specs.declared.machine.Width.TheVariants.{B2};
+ghost use Rattle.fc_numbers.specs.declared.machine.Width.TheVariants.{Halfword};
 ghost use Rattle.guest_ram.specs.Value.{count_of};
 ghost use Rattle.guest_ram.specs.Ram.{is_inside, is_text, frame_of, stamp_of, loaded, stored, store_answer, value, placed, zero_ram, IsLaid, IsLawful, CanStore};
 
@@ -136,7 +136,7 @@ impl GuestRam {
     pub fn load_half(&self, at: Gpa) -> u16
         requires inside { is_inside self.now at ≡ true }
         requires even { at % 2 ≡ 0 }
-        ensures { result ≡ value self.now at B2 }
+        ensures { result ≡ value self.now at Halfword }
     {
         bytes::half_at(&self.bytes, (at.0 - RAM_START) as usize)
     }

@@ -1,2 +1,6 @@
 pub mod Runs
 pub mod Stable
+pub mod Ascending
+pub mod Missed
+pub mod Logged
+pub mod OneVcpu

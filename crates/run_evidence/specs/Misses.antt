@@ -1,7 +1,9 @@
 -- The misses of a run: the steps that fetch a group which is not in the base of their view and was fetched under
 -- that view at no earlier step.
-use Rattle.std.specs.Prelude.{ℕ, ◌==◌, ◌&&◌, ◌||◌, Bool, true, false, not, if◌then◌else◌, Option, Some, None, List, [], ◌∷◌, ◌++◌, length}
+use Rattle.std.specs.Prelude.{ℕ, ◌==◌, ◌&&◌, ◌||◌, Bool, false, not, if◌then◌else◌, Option, Some, None, List, [], ◌∷◌, ◌++◌, length, map}
+use Rattle.std.specs.List.{filter}
 use Rattle.std.proofs.Common.{zero, suc}
+use Rattle.chain_log.specs.declared.entry.LogEntry.{LogEntry}
 use Rattle.function_table.specs.Groups.{group_at}
 use Rattle.run_evidence.specs.Config.{Config, groups_in, is_base, fetched_at, view_at}
 
@@ -37,3 +39,11 @@ misses_to c schedule (suc t) = misses_to c schedule t ++ (if is_miss c schedule 
 
 abbrev pub misses : Config → List ℕ → List ℕ
 misses c schedule = misses_to c schedule (length schedule)
+
+-- the misses under view v, in order
+abbrev pub misses_under : Config → List ℕ → ℕ → List ℕ
+misses_under c schedule v = filter (λ t. view_at c schedule t == v) (misses c schedule)
+
+-- the steps at which the entries of a log trapped, in the order of the log
+abbrev pub steps_of : List LogEntry → List ℕ
+steps_of log = map (λ e. e.at) log

@@ -1,2 +1,2 @@
-//! What a run and its logs are evidence of.
+//! What a run and its logs are evidence of, and which steps of a run are misses.
 #![tactic(auto)]

@@ -4,7 +4,7 @@ use Rattle.std.specs.Prelude.{ℕ, ◌+◌, ◌-◌, ◌*◌, ◌/◌, ◌%◌, 
 use Rattle.std.specs.Int.{w64, w32, w128, cast_unsigned, cast_signed, int_shr}
 use Rattle.fc_numbers.specs.Numbers.{sext32}
 use Rattle.fc_numbers.specs.declared.machine.Width.{Width}
-use Rattle.fc_numbers.specs.declared.machine.Width.TheVariants.{B1, B2, B4, B8}
+use Rattle.fc_numbers.specs.declared.machine.Width.TheVariants.{Byte, Halfword, Word, Doubleword}
 use Rattle.rv_alu.specs.declared.AluOp.{AluOp}
 use Rattle.rv_alu.specs.declared.AluOp.TheVariants.{Add, Sub, Sll, Slt, Sltu, Xor, Srl, Sra, Or, And, Addw, Subw, Sllw, Srlw, Sraw, Mul, Mulh, Mulhsu, Mulhu, Div, Divu, Rem, Remu, Mulw, Divw, Divuw, Remw, Remuw}
 use Rattle.rv_alu.specs.declared.BranchOp.{BranchOp}
@@ -111,7 +111,7 @@ amo_value MaxU a b = if nat_lt a b then b else a
 
 -- by words both sources count by their low 32 bits, sign-extended: that keeps the signed and the unsigned order
 abbrev pub amo_of : AmoOp → Width → ℕ → ℕ → ℕ
-amo_of op B1 old src = amo_value op old src
-amo_of op B2 old src = amo_value op old src
-amo_of op B4 old src = sext32 (amo_value op (sext32 old) (sext32 src))
-amo_of op B8 old src = amo_value op old src
+amo_of op Byte old src = amo_value op old src
+amo_of op Halfword old src = amo_value op old src
+amo_of op Word old src = sext32 (amo_value op (sext32 old) (sext32 src))
+amo_of op Doubleword old src = amo_value op old src

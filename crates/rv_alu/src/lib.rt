@@ -284,7 +284,7 @@ pub fn amo(op: AmoOp, width: Width, old: u64, src: u64) -> u64
     ensures { result ≡ amo_of op width old src }
 {
     match width {
-        Width::B4 => {
+        Width::Word => {
             let value = amo_double(op, extend_word(low_word(old)), extend_word(low_word(src)));
             extend_word(low_word(value))
         }
@@ -374,17 +374,17 @@ mod tests {
             (AmoOp::MaxU, 0x7fff_ffff, 0x1_0000_0001),
         ] {
             assert_eq!(rt;
-                amo(op, Width::B4, 0x7fff_ffff, 0x1_0000_0001),
+                amo(op, Width::Word, 0x7fff_ffff, 0x1_0000_0001),
                 word,
                 "{op:?}"
             );
             assert_eq!(rt;
-                amo(op, Width::B8, 0x7fff_ffff, 0x1_0000_0001),
+                amo(op, Width::Doubleword, 0x7fff_ffff, 0x1_0000_0001),
                 double,
                 "{op:?}"
             );
         }
-        assert_eq!(rt; amo(AmoOp::Min, Width::B4, 0x8000_0000, 1), WORD_LEAST);
-        assert_eq!(rt; amo(AmoOp::MinU, Width::B4, 0x8000_0000, 1), 1);
+        assert_eq!(rt; amo(AmoOp::Min, Width::Word, 0x8000_0000, 1), WORD_LEAST);
+        assert_eq!(rt; amo(AmoOp::MinU, Width::Word, 0x8000_0000, 1), 1);
     }
 }

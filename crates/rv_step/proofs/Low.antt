@@ -9,7 +9,7 @@ use Rattle.sv39_walk.specs.declared.Walked.{Walked}
 use Rattle.sv39_walk.specs.declared.Walked.TheVariants.{At, PageFault, AccessFault, TableInText}
 use Rattle.sv39_walk.specs.Entry.{ppn, is_fault, page_at}
 use Rattle.guest_ram.specs.Ram.{value}
-use Rattle.fc_numbers.specs.declared.machine.Width.TheVariants.{B8}
+use Rattle.fc_numbers.specs.declared.machine.Width.TheVariants.{Doubleword}
 use Rattle.sv39_walk.specs.Walk.{asked, leads_on, ends_in, entry_place, table_of, walk_from, walked, satp_mode, root_of, is_canonical, KeepsLow}
 use Rattle.rv_csr.specs.Csr.{is_set}
 use Rattle.rv_step.specs.declared.vcpu.Vcpu.{Vcpu}
@@ -32,13 +32,13 @@ choice_keeps_low va false x y hx hy = hy
 ends_in_keeps_low : (ram : Ram) (q : Asked) (level at : ℕ) → KeepsLow q.va (ends_in ram q level at)
 unfolding ends_in
 ends_in_keeps_low ram q level at =
-    let bad = is_fault q level (value ram at B8) in
-    let leaf : Walked = At (ppn (value ram at B8) * 4096 + q.va % page_at level) in
+    let bad = is_fault q level (value ram at Doubleword) in
+    let leaf : Walked = At (ppn (value ram at Doubleword) * 4096 + q.va % page_at level) in
     let by_entry : Walked = if bad then PageFault else leaf in
     let by_text : Walked = if is_text ram at then TableInText else by_entry in
     choice_keeps_low q.va (not (is_inside ram at)) AccessFault by_text tt
     (choice_keeps_low q.va (is_text ram at) TableInText by_entry tt
-    (choice_keeps_low q.va bad PageFault leaf tt (leaf_keeps_low (ppn (value ram at B8)) q.va level)))
+    (choice_keeps_low q.va bad PageFault leaf tt (leaf_keeps_low (ppn (value ram at Doubleword)) q.va level)))
 
 walk_from_keeps_low : (ram : Ram) (q : Asked) (levels table : ℕ) → KeepsLow q.va (walk_from ram q levels table)
 unfolding walk_from

@@ -27,10 +27,10 @@ fn is_whole(at: u64, width: Width) -> bool
     ensures { result ≡ is_aligned at width }
 {
     match width {
-        Width::B1 => true,
-        Width::B2 => at % 2 == 0,
-        Width::B4 => at % 4 == 0,
-        Width::B8 => at % 8 == 0,
+        Width::Byte => true,
+        Width::Halfword => at % 2 == 0,
+        Width::Word => at % 4 == 0,
+        Width::Doubleword => at % 8 == 0,
     }
 }
 
@@ -55,10 +55,10 @@ fn extend(width: Width, signed: bool, x: u64) -> u64
         return x;
     }
     match width {
-        Width::B1 => extend_low(0x100, 0x80, x % 0x100),
-        Width::B2 => extend_low(0x1_0000, 0x8000, x % 0x1_0000),
-        Width::B4 => extend_low(0x1_0000_0000, 0x8000_0000, x % 0x1_0000_0000),
-        Width::B8 => x,
+        Width::Byte => extend_low(0x100, 0x80, x % 0x100),
+        Width::Halfword => extend_low(0x1_0000, 0x8000, x % 0x1_0000),
+        Width::Word => extend_low(0x1_0000_0000, 0x8000_0000, x % 0x1_0000_0000),
+        Width::Doubleword => x,
     }
 }
 

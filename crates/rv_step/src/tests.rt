@@ -71,7 +71,7 @@ fn executed(
     };
     let mut put = None;
     let effect = execute(inst, 4, vcpu, &mut ram, &mut feed, &stage, &mut put, 7);
-    let after = ram.load(Gpa(DATA), Width::B8).unwrap_or(0);
+    let after = ram.load(Gpa(DATA), Width::Doubleword).unwrap_or(0);
     Ok((effect, after, put))
 }
 

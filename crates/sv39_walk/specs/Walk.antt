@@ -4,7 +4,7 @@ use Rattle.std.specs.Prelude.{◌≡◌, ◌≢◌, ℕ, ◌+◌, ◌-◌, ◌*�
 use Rattle.std.proofs.Common.{zero, suc}
 use Rattle.fc_numbers.specs.declared.machine.Mode.{Mode}
 use Rattle.fc_numbers.specs.declared.machine.Access.{Access}
-use Rattle.fc_numbers.specs.declared.machine.Width.TheVariants.{B8}
+use Rattle.fc_numbers.specs.declared.machine.Width.TheVariants.{Doubleword}
 use Rattle.guest_ram.specs.Ram.{Ram, is_inside, is_text, value}
 use Rattle.sv39_walk.specs.Entry.{ppn, is_leaf, is_fault, page_at}
 use Rattle.sv39_walk.specs.declared.Asked.{Asked}
@@ -21,23 +21,23 @@ entry_place q level table = table + 8 * (q.va / page_at level % 512)
 
 -- an entry that can be read, is no fault and is no leaf: the walk goes on in the table that it names
 abbrev pub leads_on : Ram → Asked → ℕ → ℕ → Bool
-leads_on ram q level at = is_inside ram at && not (is_text ram at) && not (is_fault q level (value ram at B8)) && not (is_leaf (value ram at B8))
+leads_on ram q level at = is_inside ram at && not (is_text ram at) && not (is_fault q level (value ram at Doubleword)) && not (is_leaf (value ram at Doubleword))
 
 -- the entry that can be read, or the answer where it cannot
 abbrev pub entry_read : Ram → ℕ → Result ℕ Walked
-entry_read ram at = if is_inside ram at then (if is_text ram at then Err TableInText else Ok (value ram at B8)) else Err AccessFault
+entry_read ram at = if is_inside ram at then (if is_text ram at then Err TableInText else Ok (value ram at Doubleword)) else Err AccessFault
 
 -- where the page of a table begins that an entry names
 abbrev pub table_of : Ram → ℕ → ℕ
-table_of ram at = ppn (value ram at B8) * 4096
+table_of ram at = ppn (value ram at Doubleword) * 4096
 
 -- what the last entry of a walk answers
 unfoldable pub ends_in : Ram → Asked → ℕ → ℕ → Walked
 ends_in ram q level at =
     if not (is_inside ram at) then AccessFault
     else if is_text ram at then TableInText
-    else if is_fault q level (value ram at B8) then PageFault
-    else At (ppn (value ram at B8) * 4096 + q.va % page_at level)
+    else if is_fault q level (value ram at Doubleword) then PageFault
+    else At (ppn (value ram at Doubleword) * 4096 + q.va % page_at level)
 
 -- the entries that stand at these places, the first in this table and at the highest of so many levels, are a walk with this answer:
 -- each one but the last leads on to the next, one level below, and the last leads nowhere and gives the answer

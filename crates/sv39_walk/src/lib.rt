@@ -62,7 +62,8 @@ fn read_entry(ram: &GuestRam, at: Gpa) -> Result<u64, Walked>
     if ram.in_text(at) && ram.is_inside(at) {
         return Err(Walked::TableInText);
     }
-    ram.load(at, Width::B8).map_err(|_| Walked::AccessFault)
+    ram.load(at, Width::Doubleword)
+        .map_err(|_| Walked::AccessFault)
 }
 
 /// The number of the entry for the address in a table of the level.

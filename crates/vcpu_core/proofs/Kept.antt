@@ -13,7 +13,7 @@ use Rattle.chain_log.specs.declared.entry.LogEntry.{LogEntry}
 use Rattle.guest_ram.specs.Ram.{Ram, is_text}
 use Rattle.view_file.specs.Named.{view_named}
 use Rattle.view_file.specs.Base.{base_of}
-use Rattle.view_store.specs.Paged.{Paper, is_present, logged, patched}
+use Rattle.view_store.specs.Paged.{PagedView, is_present, logged, patched}
 use Rattle.guest_board.specs.declared.step.Ready.{Ready}
 use Rattle.guest_board.specs.declared.step.Ready.TheVariants.{Interrupt, Fetches}
 use Rattle.guest_board.specs.declared.fetch.Fetched.{Fetched}
@@ -36,11 +36,12 @@ use Rattle.vcpu_core.specs.declared.lane.Phase.{Phase}
 use Rattle.vcpu_core.specs.declared.lane.Phase.TheVariants.{Running, Wants, Trapped, Looked}
 use Rattle.vcpu_core.specs.declared.lane.Went.{Went}
 use Rattle.vcpu_core.specs.declared.lane.Went.TheVariants.{Over, Stepped, Erased}
-use Rattle.vcpu_core.specs.Lanes.{seated, blank_windows, after_turn, in_phase, emptied, after_fill, after_look, after_mend, went_by, looked_of}
-use Rattle.vcpu_core.specs.World.{World, IsReady, IsLaneReady, IsPaperReady, IsPlaced, HasView, gone, went_in, go_of, went_of, go_all, erased, kept_if, lane_of, view_of, paper_in, blank_paper, blank_lane, logs_of, windows_of, verdict_in, with_lane, after_event}
+use Rattle.vcpu_core.specs.Lanes.{seated, blank_windows, after_turn, in_phase, emptied, after_fill, after_look, after_mend, went_by}
+use Rattle.recovery.specs.Recovery.{looked_of}
+use Rattle.vcpu_core.specs.World.{World, IsReady, IsLaneReady, IsPagedReady, IsPlaced, HasView, gone, went_in, go_of, went_of, go_all, erased, kept_if, lane_of, view_of, paged_in, blank_paged, blank_lane, logs_of, windows_of, verdict_in, with_lane, after_event}
 use Rattle.vcpu_core.specs.Sound.{IsSoundView}
 use Rattle.vcpu_core.proofs.Verdicts.{verdict-may, ready-needs, ready-zeroes, ready-goes, ready-busy, IsNeed, IsZero, IsPlain, IsRead}
-use Rattle.vcpu_core.proofs.Ready.{named-below, set-lane, set-paper, IsNextBoard, same-board, board-lane-ready, with_lane-ready, patched-ready, next-in, text-in, windows-view, lane-ready-in}
+use Rattle.vcpu_core.proofs.Ready.{named-below, set-lane, set-paged, IsNextBoard, same-board, board-lane-ready, with_lane-ready, patched-ready, next-in, text-in, windows-view, lane-ready-in}
 use Rattle.vcpu_core.proofs.Truth.{HasText, AreTruthful, IsClearedOf, HeldIs, IsOriginal, fill-held, truthful-logged, present-more, present-new, read-original, got-same, group-half}
 
 -- a memory with the same layout, and the same bytes of text
@@ -80,8 +81,8 @@ phase-more c schedule j i (Wants n) k = tt
 phase-more c schedule j i (Trapped t) k = (k.0, trap-more c schedule j t.vcpu t.at t.pc t.view t.chain.items k.1)
 phase-more c schedule j i (Looked x) k = (k.0, trap-more c schedule j x.entry.vcpu x.entry.at x.entry.pc x.entry.view x.entry.chain.items k.1, k.2)
 
-pub record IsTruthful (c : Config) (schedule : List ℕ) (papers : List Paper) (i : ℕ) (l : Lane) : Type 0 where
-  pub windows : AreTruthful (paper_in papers l.windows.view) l.windows
+pub record IsTruthful (c : Config) (schedule : List ℕ) (paged_views : List PagedView) (i : ℕ) (l : Lane) : Type 0 where
+  pub windows : AreTruthful (paged_in paged_views l.windows.view) l.windows
   pub phase : PhaseIs c schedule i l.phase
 
 -- the board is the full kernel after its schedule, and the text is where it was
@@ -98,17 +99,17 @@ pub record IsKept (c : Config) (w : World) : Type 0 where
   pub profile : w.profile ≡ c.views
   pub groups : w.groups ≡ groups_in c
   pub board : IsFull c w.board
-  pub papers : (v : ℕ) → v < length w.papers → IsSoundView c w.board.schedule v (paper_in w.papers v)
-  pub lanes : (k : ℕ) → k < length w.lanes → IsTruthful c w.board.schedule w.papers k (lane_of w k)
-  pub allowed : IsAllowed c (logs_of w.papers) w.board.schedule
+  pub paged_views : (v : ℕ) → v < length w.paged_views → IsSoundView c w.board.schedule v (paged_in w.paged_views v)
+  pub lanes : (k : ℕ) → k < length w.lanes → IsTruthful c w.board.schedule w.paged_views k (lane_of w k)
+  pub allowed : IsAllowed c (logs_of w.paged_views) w.board.schedule
 
 -- the log of a view among all logs
-pub log-of : (papers : List Paper) (v : ℕ) → log_in (logs_of papers) v ≡ (paper_in papers v).log
+pub log-of : (paged_views : List PagedView) (v : ℕ) → log_in (logs_of paged_views) v ≡ (paged_in paged_views v).log
 log-of [] v = refl
 log-of (p ∷ ps) zero = refl
 log-of (p ∷ ps) (suc v) = log-of ps v
 
-view-more : (c : Config) (schedule : List ℕ) (i v : ℕ) (p : Paper) → IsSoundView c schedule v p → IsSoundView c (schedule ++ i ∷ []) v p
+view-more : (c : Config) (schedule : List ℕ) (i v : ℕ) (p : PagedView) → IsSoundView c schedule v p → IsSoundView c (schedule ++ i ∷ []) v p
 view-more c schedule i v p k = record {
   number = k.number;
   text = k.text;
@@ -140,12 +141,12 @@ or-weaken : (a b d : Bool) → (b ≡ true → d ≡ true) → (a || b) ≡ true
 or-weaken true b d f e = refl
 or-weaken false b d f e = f e
 
-set-same : (papers : List Paper) (v : ℕ) → slice_set papers v (paper_in papers v) ≡ papers
+set-same : (paged_views : List PagedView) (v : ℕ) → slice_set paged_views v (paged_in paged_views v) ≡ paged_views
 set-same [] v = refl
 set-same (p ∷ ps) zero = refl
 set-same (p ∷ ps) (suc v) = ap (λ x. p ∷ x) (set-same ps v)
 
-set-get : (papers : List Paper) (v : ℕ) (p : Paper) → v < length papers → paper_in (slice_set papers v p) v ≡ p
+set-get : (paged_views : List PagedView) (v : ℕ) (p : PagedView) → v < length paged_views → paged_in (slice_set paged_views v p) v ≡ p
 set-get [] v p h = absurd (omega (arith, h))
 set-get (q ∷ qs) zero p h = refl
 set-get (q ∷ qs) (suc v) p h = set-get qs v p (omega (arith, h))
@@ -182,55 +183,55 @@ module _ (stays : RamStays) where
     lane-ready = k.ready.each i within
 
     -- an event that replaces a lane alone
-    lane-kept : (l : Lane) → IsLaneReady w i l → IsTruthful c w.board.schedule w.papers i l → IsKept c (with_lane w i l)
+    lane-kept : (l : Lane) → IsLaneReady w i l → IsTruthful c w.board.schedule w.paged_views i l → IsKept c (with_lane w i l)
     lane-kept l r new = record {
       ready = with_lane-ready w i l k.ready r;
       profile = k.profile;
       groups = k.groups;
       board = k.board;
-      papers = k.papers;
-      lanes = set-lane (λ n x. IsTruthful c w.board.schedule w.papers n x) w.lanes i l k.lanes new;
+      paged_views = k.paged_views;
+      lanes = set-lane (λ n x. IsTruthful c w.board.schedule w.paged_views n x) w.lanes i l k.lanes new;
       allowed = k.allowed;
     }
 
     view-here : view_in c (full c w.board.schedule) i ≡ view_of w i
     view-here = ap (λ (s : State). view_in c s i) (sym k.board.state) ∙ ap (λ (x : Rattle.view_file.specs.declared.views.Views.Views). view_named x (name_of w.board.state i)) (sym k.profile)
 
-    paper-here : (v : ℕ) → v < length w.papers → IsSoundView c w.board.schedule v (paper_in w.papers v)
-    paper-here = k.papers
+    paged-here : (v : ℕ) → v < length w.paged_views → IsSoundView c w.board.schedule v (paged_in w.paged_views v)
+    paged-here = k.paged_views
 
     -- an event that steps
-    step-kept : (l : Lane) → IsLaneReady w i l → IsTruthful c (w.board.schedule ++ i ∷ []) w.papers i l → view_of w i < length w.papers
-        → ((p : ℕ) → next_of w.board.state i ≡ Some p → is_present (paper_in w.papers (view_of w i)).base (paper_in w.papers (view_of w i)).log (group_at w.groups p) ≡ true)
+    step-kept : (l : Lane) → IsLaneReady w i l → IsTruthful c (w.board.schedule ++ i ∷ []) w.paged_views i l → view_of w i < length w.paged_views
+        → ((p : ℕ) → next_of w.board.state i ≡ Some p → is_present (paged_in w.paged_views (view_of w i)).base (paged_in w.paged_views (view_of w i)).log (group_at w.groups p) ≡ true)
         → IsKept c (record w { board = moved w.board i (step_of w.board.steps w.board.state i); lanes = slice_set w.lanes i l })
     step-kept l r new inside present = record {
       ready = board-lane-ready w i l (moved w.board i (step_of w.board.steps w.board.state i)) k.ready (step-next w.board.steps w.board i k.board.laid) r;
       profile = k.profile;
       groups = k.groups;
       board = full-step c w.board i m k.board;
-      papers = λ v h. view-more c w.board.schedule i v (paper_in w.papers v) (k.papers v h);
-      lanes = set-lane (λ n x. IsTruthful c (w.board.schedule ++ i ∷ []) w.papers n x) w.lanes i l
+      paged_views = λ v h. view-more c w.board.schedule i v (paged_in w.paged_views v) (k.paged_views v h);
+      lanes = set-lane (λ n x. IsTruthful c (w.board.schedule ++ i ∷ []) w.paged_views n x) w.lanes i l
           (λ n h. record { windows = (k.lanes n h).windows; phase = phase-more c w.board.schedule i n (lane_of w n).phase (k.lanes n h).phase }) new;
-      allowed = allowed-more c w.board.schedule i (logs_of w.papers) k.allowed (λ p next. fetch-allowed p next);
+      allowed = allowed-more c w.board.schedule i (logs_of w.paged_views) k.allowed (λ p next. fetch-allowed p next);
     } where
       fetch-allowed : (p : ℕ) → next_of (full c w.board.schedule) i ≡ Some p
-          → is_open c (logs_of w.papers) (view_in c (full c w.board.schedule) i) (length w.board.schedule) (group_at (groups_in c) p) ≡ true
+          → is_open c (logs_of w.paged_views) (view_in c (full c w.board.schedule) i) (length w.board.schedule) (group_at (groups_in c) p) ≡ true
       fetch-allowed p next =
           let v : ℕ = view_of w i in
-          let sound : IsSoundView c w.board.schedule (view_of w i) (paper_in w.papers (view_of w i)) = k.papers (view_of w i) inside in
+          let sound : IsSoundView c w.board.schedule (view_of w i) (paged_in w.paged_views (view_of w i)) = k.paged_views (view_of w i) inside in
           let here : next_of w.board.state i ≡ Some p = subst (λ (s : State). next_of s i ≡ Some p) (sym k.board.state) next in
-          let there : is_present (paper_in w.papers (view_of w i)).base (paper_in w.papers (view_of w i)).log (group_at (groups_in c) p) ≡ true =
-          subst (λ (t : Groups). is_present (paper_in w.papers (view_of w i)).base (paper_in w.papers (view_of w i)).log (group_at t p) ≡ true) k.groups (present p here) in
-          let based : is_present (base_of c.views (groups_in c) (view_of w i)) (paper_in w.papers (view_of w i)).log (group_at (groups_in c) p) ≡ true =
-          subst (λ b. is_present b (paper_in w.papers (view_of w i)).log (group_at (groups_in c) p) ≡ true) sound.base there in
-          rw (view-here, log-of w.papers (view_of w i))
-          (or-weaken _ _ _ (is_logged-now c w.board.schedule (group_at (groups_in c) p) (paper_in w.papers (view_of w i)).log sound.justified) based)
+          let there : is_present (paged_in w.paged_views (view_of w i)).base (paged_in w.paged_views (view_of w i)).log (group_at (groups_in c) p) ≡ true =
+          subst (λ (t : Groups). is_present (paged_in w.paged_views (view_of w i)).base (paged_in w.paged_views (view_of w i)).log (group_at t p) ≡ true) k.groups (present p here) in
+          let based : is_present (base_of c.views (groups_in c) (view_of w i)) (paged_in w.paged_views (view_of w i)).log (group_at (groups_in c) p) ≡ true =
+          subst (λ b. is_present b (paged_in w.paged_views (view_of w i)).log (group_at (groups_in c) p) ≡ true) sound.base there in
+          rw (view-here, log-of w.paged_views (view_of w i))
+          (or-weaken _ _ _ (is_logged-now c w.board.schedule (group_at (groups_in c) p) (paged_in w.paged_views (view_of w i)).log sound.justified) based)
 
     -- the logs after a view was patched have as much
-    logs-more : (v : ℕ) (e : LogEntry) → (u t g : ℕ) → is_logged (log_in (logs_of w.papers) u) t g ≡ true → is_logged (log_in (logs_of (slice_set w.papers v (logged (paper_in w.papers v) e))) u) t g ≡ true
+    logs-more : (v : ℕ) (e : LogEntry) → (u t g : ℕ) → is_logged (log_in (logs_of w.paged_views) u) t g ≡ true → is_logged (log_in (logs_of (slice_set w.paged_views v (logged (paged_in w.paged_views v) e))) u) t g ≡ true
     logs-more v e u t g h =
-        rw (log-of (slice_set w.papers v (logged (paper_in w.papers v) e)) u) (set-logged w.papers v u (rw (log-of w.papers u) at h)) where
-          set-logged : (papers : List Paper) (v u : ℕ) → is_logged (paper_in papers u).log t g ≡ true → is_logged (paper_in (slice_set papers v (logged (paper_in papers v) e)) u).log t g ≡ true
+        rw (log-of (slice_set w.paged_views v (logged (paged_in w.paged_views v) e)) u) (set-logged w.paged_views v u (rw (log-of w.paged_views u) at h)) where
+          set-logged : (paged_views : List PagedView) (v u : ℕ) → is_logged (paged_in paged_views u).log t g ≡ true → is_logged (paged_in (slice_set paged_views v (logged (paged_in paged_views v) e)) u).log t g ≡ true
           set-logged [] v u h = h
           set-logged (p ∷ ps) zero zero h = is_logged-push p.log e t g h
           set-logged (p ∷ ps) zero (suc u) h = h
@@ -238,9 +239,9 @@ module _ (stays : RamStays) where
           set-logged (p ∷ ps) (suc v) (suc u) h = set-logged ps v u h
 
     -- windows stay truthful where a view is patched
-    windows-patched : (v : ℕ) (e : LogEntry) (u : ℕ) (x : Windows) → AreTruthful (paper_in w.papers u) x → AreTruthful (paper_in (slice_set w.papers v (logged (paper_in w.papers v) e)) u) x
-    windows-patched v e u x h = go w.papers v u h where
-      go : (papers : List Paper) (v u : ℕ) → AreTruthful (paper_in papers u) x → AreTruthful (paper_in (slice_set papers v (logged (paper_in papers v) e)) u) x
+    windows-patched : (v : ℕ) (e : LogEntry) (u : ℕ) (x : Windows) → AreTruthful (paged_in w.paged_views u) x → AreTruthful (paged_in (slice_set w.paged_views v (logged (paged_in w.paged_views v) e)) u) x
+    windows-patched v e u x h = go w.paged_views v u h where
+      go : (paged_views : List PagedView) (v u : ℕ) → AreTruthful (paged_in paged_views u) x → AreTruthful (paged_in (slice_set paged_views v (logged (paged_in paged_views v) e)) u) x
       go [] v u h = h
       go (p ∷ ps) zero zero h = truthful-logged p e x h
       go (p ∷ ps) zero (suc u) h = h
@@ -248,14 +249,14 @@ module _ (stays : RamStays) where
       go (p ∷ ps) (suc v) (suc u) h = go ps v u h
 
     -- an event that mends
-    mend-kept : (l : Lane) (v : ℕ) (e : LogEntry) → v < length w.papers → IsLaneReady w i l → e.view ≡ v
-        → is_present (paper_in w.papers v).base (paper_in w.papers v).log e.group ≡ false
+    mend-kept : (l : Lane) (v : ℕ) (e : LogEntry) → v < length w.paged_views → IsLaneReady w i l → e.view ≡ v
+        → is_present (paged_in w.paged_views v).base (paged_in w.paged_views v).log e.group ≡ false
         → IsTrap c w.board.schedule e.vcpu e.at e.pc e.view e.chain.items → e.group ≡ group_at (groups_in c) e.pc
-        → IsTruthful c w.board.schedule (slice_set w.papers v (logged (paper_in w.papers v) e)) i l
-        → IsKept c (record w { papers = slice_set w.papers v (logged (paper_in w.papers v) e); lanes = slice_set w.lanes i l })
+        → IsTruthful c w.board.schedule (slice_set w.paged_views v (logged (paged_in w.paged_views v) e)) i l
+        → IsKept c (record w { paged_views = slice_set w.paged_views v (logged (paged_in w.paged_views v) e); lanes = slice_set w.lanes i l })
     mend-kept l v e inside r same absent trap group new =
-        let sound : IsSoundView c w.board.schedule v (paper_in w.papers v) = k.papers v inside in
-        let out : (slice_index_or (paper_in w.papers v).base e.group false ≡ false) × (Rattle.view_store.specs.Paged.is_logged (paper_in w.papers v).log e.group ≡ false) = or-false _ _ absent in
+        let sound : IsSoundView c w.board.schedule v (paged_in w.paged_views v) = k.paged_views v inside in
+        let out : (slice_index_or (paged_in w.paged_views v).base e.group false ≡ false) × (Rattle.view_store.specs.Paged.is_logged (paged_in w.paged_views v).log e.group ≡ false) = or-false _ _ absent in
         let missing : is_base c e.view e.group ≡ false = rw same (subst (λ b. slice_index_or b e.group false ≡ false) sound.base out.0) in
         let just : IsJustified c w.board.schedule e = record {
           early = trap.early;
@@ -267,44 +268,44 @@ module _ (stays : RamStays) where
           chain = trap.chain_is;
         } in
         record {
-          ready = patched-ready w i v l (logged (paper_in w.papers v) e) k.ready (record { number = sound.number; groups = (k.ready.papers v inside).groups }) r;
+          ready = patched-ready w i v l (logged (paged_in w.paged_views v) e) k.ready (record { number = sound.number; groups = (k.ready.paged_views v inside).groups }) r;
           profile = k.profile;
           groups = k.groups;
           board = k.board;
-          papers = set-paper (λ n p. IsSoundView c w.board.schedule n p) w.papers v (logged (paper_in w.papers v) e) k.papers (record {
+          paged_views = set-paged (λ n p. IsSoundView c w.board.schedule n p) w.paged_views v (logged (paged_in w.paged_views v) e) k.paged_views (record {
             number = sound.number;
             text = sound.text;
             groups = sound.groups;
             base = sound.base;
-            of_view = of_view-push v e (paper_in w.papers v).log sound.of_view same;
-            justified = all_justified-push c w.board.schedule e (paper_in w.papers v).log sound.justified just;
-            once = once-push e (paper_in w.papers v).log sound.once out.1;
+            of_view = of_view-push v e (paged_in w.paged_views v).log sound.of_view same;
+            justified = all_justified-push c w.board.schedule e (paged_in w.paged_views v).log sound.justified just;
+            once = once-push e (paged_in w.paged_views v).log sound.once out.1;
           });
-          lanes = set-lane (λ n x. IsTruthful c w.board.schedule (slice_set w.papers v (logged (paper_in w.papers v) e)) n x) w.lanes i l
+          lanes = set-lane (λ n x. IsTruthful c w.board.schedule (slice_set w.paged_views v (logged (paged_in w.paged_views v) e)) n x) w.lanes i l
               (λ n h. record { windows = windows-patched v e (lane_of w n).windows.view (lane_of w n).windows (k.lanes n h).windows; phase = (k.lanes n h).phase }) new;
-          allowed = allowed-weaken c w.board.schedule (logs_of w.papers) (logs_of (slice_set w.papers v (logged (paper_in w.papers v) e))) (logs-more v e) k.allowed;
+          allowed = allowed-weaken c w.board.schedule (logs_of w.paged_views) (logs_of (slice_set w.paged_views v (logged (paged_in w.paged_views v) e))) (logs-more v e) k.allowed;
         }
 
     -- the view of the vCPU is one of the views
-    view-inside : view_of w i < length w.papers
+    view-inside : view_of w i < length w.paged_views
     view-inside = omega (arith, k.ready.views, named-below w.profile (name_of w.board.state i))
 
-    paper-groups : (v : ℕ) → v < length w.papers → (paper_in w.papers v).groups ≡ w.groups
-    paper-groups v h = (k.ready.papers v h).groups
+    paged-groups : (v : ℕ) → v < length w.paged_views → (paged_in w.paged_views v).groups ≡ w.groups
+    paged-groups v h = (k.ready.paged_views v h).groups
 
     -- the windows by which a running lane steps are truthful
-    seated-truthful : AreTruthful (paper_in w.papers (view_of w i)) (windows_of w i (lane_of w i))
+    seated-truthful : AreTruthful (paged_in w.paged_views (view_of w i)) (windows_of w i (lane_of w i))
     seated-truthful =
         elim ((lane_of w i).windows.view == view_of w i) as (λ b. ((lane_of w i).windows.view == view_of w i) ≡ b
-        → AreTruthful (paper_in w.papers (view_of w i)) (if b then (lane_of w i).windows else blank_windows (view_of w i))) [
+        → AreTruthful (paged_in w.paged_views (view_of w i)) (if b then (lane_of w i).windows else blank_windows (view_of w i))) [
           | true ↦ λ t. let same : (lane_of w i).windows.view ≡ view_of w i = grind (arith, nat_tests, t) in
-              subst (λ v. AreTruthful (paper_in w.papers v) (lane_of w i).windows) same (k.lanes i within).windows
+              subst (λ v. AreTruthful (paged_in w.paged_views v) (lane_of w i).windows) same (k.lanes i within).windows
           | false ↦ λ t. record { held = λ pair h. absurd (cc); cleared = λ s h. absurd (cc) }
         ] refl
 
-    truthful-at : (x : Windows) (p : Phase) → x.view ≡ view_of w i → AreTruthful (paper_in w.papers (view_of w i)) x → PhaseIs c w.board.schedule i p
-        → IsTruthful c w.board.schedule w.papers i (in_phase (lane_of w i) x p)
-    truthful-at x p v t ph = record { windows = subst (λ u. AreTruthful (paper_in w.papers u) x) (sym v) t; phase = ph }
+    truthful-at : (x : Windows) (p : Phase) → x.view ≡ view_of w i → AreTruthful (paged_in w.paged_views (view_of w i)) x → PhaseIs c w.board.schedule i p
+        → IsTruthful c w.board.schedule w.paged_views i (in_phase (lane_of w i) x p)
+    truthful-at x p v t ph = record { windows = subst (λ u. AreTruthful (paged_in w.paged_views u) x) (sym v) t; phase = ph }
 
     lane-at : (x : Windows) (p : Phase) → x.view ≡ view_of w i → IsPlaced w.groups (in_phase (lane_of w i) x p) p → HasView (view_of w i) (in_phase (lane_of w i) x p) p
         → IsLaneReady w i (in_phase (lane_of w i) x p)
@@ -330,46 +331,46 @@ module _ (stays : RamStays) where
     -- a step that goes by truthful windows is the full kernel's, and its group is present
     goes-step : (r : Ready) → by_ready w.board.state.ram.text.start (windows_of w i (lane_of w i)) (ready_at w.board.state i) ≡ Goes r
         → (stepped_by w.board.steps w.board.state i r ≡ step_of w.board.steps w.board.state i)
-        × ((p : ℕ) → next_of w.board.state i ≡ Some p → is_present (paper_in w.papers (view_of w i)).base (paper_in w.papers (view_of w i)).log (group_at w.groups p) ≡ true)
+        × ((p : ℕ) → next_of w.board.state i ≡ Some p → is_present (paged_in w.paged_views (view_of w i)).base (paged_in w.paged_views (view_of w i)).log (group_at w.groups p) ≡ true)
     goes-step r e = by_cases (ready-goes w.board.state.ram.text.start (windows_of w i (lane_of w i)) (ready_at w.board.state i) r e) where
       by_read : IsRead w.board.state.ram.text.start (windows_of w i (lane_of w i)) (ready_at w.board.state i) r
           → (stepped_by w.board.steps w.board.state i r ≡ step_of w.board.steps w.board.state i)
-          × ((p : ℕ) → next_of w.board.state i ≡ Some p → is_present (paper_in w.papers (view_of w i)).base (paper_in w.papers (view_of w i)).log (group_at w.groups p) ≡ true)
+          × ((p : ℕ) → next_of w.board.state i ≡ Some p → is_present (paged_in w.paged_views (view_of w i)).base (paged_in w.paged_views (view_of w i)).log (group_at w.groups p) ≡ true)
       by_read x0 =
-          let paper : Paper = paper_in w.papers (view_of w i) in
-          let sound : IsSoundView c w.board.schedule (view_of w i) (paper_in w.papers (view_of w i)) = k.papers (view_of w i) view-inside in
-          let groups : (paper_in w.papers (view_of w i)).groups ≡ w.groups = paper-groups (view_of w i) view-inside in
-          let start : w.board.state.ram.text.start ≡ (paper_in w.papers (view_of w i)).groups.base = k.ready.start ∙ ap (λ (t : Groups). t.base) (sym groups) in
-          let x : IsRead (paper_in w.papers (view_of w i)).groups.base (windows_of w i (lane_of w i)) (ready_at w.board.state i) r =
+          let paged : PagedView = paged_in w.paged_views (view_of w i) in
+          let sound : IsSoundView c w.board.schedule (view_of w i) (paged_in w.paged_views (view_of w i)) = k.paged_views (view_of w i) view-inside in
+          let groups : (paged_in w.paged_views (view_of w i)).groups ≡ w.groups = paged-groups (view_of w i) view-inside in
+          let start : w.board.state.ram.text.start ≡ (paged_in w.paged_views (view_of w i)).groups.base = k.ready.start ∙ ap (λ (t : Groups). t.base) (sym groups) in
+          let x : IsRead (paged_in w.paged_views (view_of w i)).groups.base (windows_of w i (lane_of w i)) (ready_at w.board.state i) r =
           subst (λ n. IsRead n (windows_of w i (lane_of w i)) (ready_at w.board.state i) r) start x0 in
           let next : next_of w.board.state i ≡ Some x.place = next-is w.board.state i ∙ ap (λ z. place_of z) x.begin ∙ x.next in
           let inside : (w.groups.base ≤ x.place) × (x.place < w.groups.base + w.groups.size) = next-in w i k.ready x.place next in
-          let low : (paper_in w.papers (view_of w i)).groups.base ≤ x.place = rw groups inside.0 in
-          let high : x.place < (paper_in w.papers (view_of w i)).groups.base + (paper_in w.papers (view_of w i)).groups.size = rw groups inside.1 in
-          let o : IsOriginal (paper_in w.papers (view_of w i)) x.pair = read-original (paper_in w.papers (view_of w i)) (windows_of w i (lane_of w i)) (ready_at w.board.state i) r x seated-truthful low high in
-          let good : IsGroups (paper_in w.papers (view_of w i)).groups = rw groups k.ready.groups in
-          let base : (groups_in c).base ≡ (paper_in w.papers (view_of w i)).groups.base = ap (λ (t : Groups). t.base) (sym sound.groups) in
-          let has : HasText w.board.state.ram (paper_in w.papers (view_of w i)).groups.base (paper_in w.papers (view_of w i)).text =
-          subst (λ n. HasText w.board.state.ram n (paper_in w.papers (view_of w i)).text) base (rw sound.text k.board.text) in
-          let join : (n : ℕ) → half_of (paper_in w.papers (view_of w i)).text n % 4 ≡ 3
-          → group_in (paper_in w.papers (view_of w i)).groups.starts (2 * (n + 1)) ≡ group_in (paper_in w.papers (view_of w i)).groups.starts (2 * n) =
+          let low : (paged_in w.paged_views (view_of w i)).groups.base ≤ x.place = rw groups inside.0 in
+          let high : x.place < (paged_in w.paged_views (view_of w i)).groups.base + (paged_in w.paged_views (view_of w i)).groups.size = rw groups inside.1 in
+          let o : IsOriginal (paged_in w.paged_views (view_of w i)) x.pair = read-original (paged_in w.paged_views (view_of w i)) (windows_of w i (lane_of w i)) (ready_at w.board.state i) r x seated-truthful low high in
+          let good : IsGroups (paged_in w.paged_views (view_of w i)).groups = rw groups k.ready.groups in
+          let base : (groups_in c).base ≡ (paged_in w.paged_views (view_of w i)).groups.base = ap (λ (t : Groups). t.base) (sym sound.groups) in
+          let has : HasText w.board.state.ram (paged_in w.paged_views (view_of w i)).groups.base (paged_in w.paged_views (view_of w i)).text =
+          subst (λ n. HasText w.board.state.ram n (paged_in w.paged_views (view_of w i)).text) base (rw sound.text k.board.text) in
+          let join : (n : ℕ) → half_of (paged_in w.paged_views (view_of w i)).text n % 4 ≡ 3
+          → group_in (paged_in w.paged_views (view_of w i)).groups.starts (2 * (n + 1)) ≡ group_in (paged_in w.paged_views (view_of w i)).groups.starts (2 * n) =
           λ n. rw (sound.text, sound.groups) (joined c.image n ok.image) in
-          let size : (paper_in w.papers (view_of w i)).groups.size ≡ length (paper_in w.papers (view_of w i)).text = rw (sound.text, sound.groups) refl in
+          let size : (paged_in w.paged_views (view_of w i)).groups.size ≡ length (paged_in w.paged_views (view_of w i)).text = rw (sound.text, sound.groups) refl in
           let halves : HalvesAre w.board.state.ram x.got = subst (λ z. ReadyIs w.board.state.ram z) x.begin (ready-is w.board.state i) in
           let same : with_halves x.got (first_of x.pair) (second_of x.pair) ≡ x.got =
-          got-same (paper_in w.papers (view_of w i)) w.board.state.ram good has size join x.place x.pair x.at o x.got halves x.next in
+          got-same (paged_in w.paged_views (view_of w i)) w.board.state.ram good has size join x.place x.pair x.at o x.got halves x.next in
           let again : r ≡ ready_at w.board.state i = x.reads ∙ ap (λ z. Fetches z) same ∙ sym x.begin in (
             ap (λ z. stepped_by w.board.steps w.board.state i z) again ∙ sym (step-is w.board.steps w.board.state i),
             λ p n.
                 let here : x.place ≡ p = cc in
-                let group : group_at w.groups x.place ≡ group_in (paper_in w.papers (view_of w i)).groups.starts (2 * x.pair.at) =
-                group-half w.groups x.place k.ready.groups ∙ ap (λ (t : Groups). group_in t.starts (2 * half_no t.base x.place)) (sym groups) ∙ ap (λ n. group_in (paper_in w.papers (view_of w i)).groups.starts (2 * n)) (sym x.at) in
-                subst (λ z. is_present (paper_in w.papers (view_of w i)).base (paper_in w.papers (view_of w i)).log (group_at w.groups z) ≡ true) here (rw group o.present),
+                let group : group_at w.groups x.place ≡ group_in (paged_in w.paged_views (view_of w i)).groups.starts (2 * x.pair.at) =
+                group-half w.groups x.place k.ready.groups ∙ ap (λ (t : Groups). group_in t.starts (2 * half_no t.base x.place)) (sym groups) ∙ ap (λ n. group_in (paged_in w.paged_views (view_of w i)).groups.starts (2 * n)) (sym x.at) in
+                subst (λ z. is_present (paged_in w.paged_views (view_of w i)).base (paged_in w.paged_views (view_of w i)).log (group_at w.groups z) ≡ true) here (rw group o.present),
           )
 
       by_cases : IsPlain (ready_at w.board.state i) r ⊎ IsRead w.board.state.ram.text.start (windows_of w i (lane_of w i)) (ready_at w.board.state i) r
           → (stepped_by w.board.steps w.board.state i r ≡ step_of w.board.steps w.board.state i)
-          × ((p : ℕ) → next_of w.board.state i ≡ Some p → is_present (paper_in w.papers (view_of w i)).base (paper_in w.papers (view_of w i)).log (group_at w.groups p) ≡ true)
+          × ((p : ℕ) → next_of w.board.state i ≡ Some p → is_present (paged_in w.paged_views (view_of w i)).base (paged_in w.paged_views (view_of w i)).log (group_at w.groups p) ≡ true)
       by_cases (inl x) = (
         ap (λ z. stepped_by w.board.steps w.board.state i z) x.same ∙ sym (step-is w.board.steps w.board.state i),
         λ p n. let none : next_of w.board.state i ≡ None = next-is w.board.state i ∙ x.none in absurd (cc),
@@ -401,13 +402,13 @@ module _ (stays : RamStays) where
         (refl, subst (λ u. IsTrap c w.board.schedule i w.board.state.clock p u (chain_in w.board.state i)) (sym v) (trap-now p next)))
     turned-kept (Goes r) e =
         let same : (stepped_by w.board.steps w.board.state i r ≡ step_of w.board.steps w.board.state i)
-        × ((p : ℕ) → next_of w.board.state i ≡ Some p → is_present (paper_in w.papers (view_of w i)).base (paper_in w.papers (view_of w i)).log (group_at w.groups p) ≡ true) = goes-step r e in
+        × ((p : ℕ) → next_of w.board.state i ≡ Some p → is_present (paged_in w.paged_views (view_of w i)).base (paged_in w.paged_views (view_of w i)).log (group_at w.groups p) ≡ true) = goes-step r e in
         let v : (windows_of w i (lane_of w i)).view ≡ view_of w i = windows-view w i (lane_of w i) in
         subst (λ (s : State). IsKept c (record w { board = moved w.board i s; lanes = slice_set w.lanes i (in_phase (lane_of w i) (emptied (windows_of w i (lane_of w i))) Running) })) (sym same.0)
         (step-kept (in_phase (lane_of w i) (emptied (windows_of w i (lane_of w i))) Running)
         (lane-at (emptied (windows_of w i (lane_of w i))) Running v tt tt)
         (record {
-          windows = subst (λ u. AreTruthful (paper_in w.papers u) (emptied (windows_of w i (lane_of w i)))) (sym v)
+          windows = subst (λ u. AreTruthful (paged_in w.paged_views u) (emptied (windows_of w i (lane_of w i)))) (sym v)
               (record { held = λ pair h. absurd (cc); cleared = seated-truthful.cleared });
           phase = tt;
         }) view-inside same.1)
@@ -419,14 +420,14 @@ module _ (stays : RamStays) where
         (turned-kept (by_ready w.board.state.ram.text.start (windows_of w i (lane_of w i)) (ready_at w.board.state i)) refl)
     gone-kept (Wants n) e =
         let u : ℕ = (lane_of w i).windows.view in
-        let inside : (lane_of w i).windows.view < length w.papers = lane-ready.view in
-        let good : IsGroups (paper_in w.papers (lane_of w i).windows.view).groups = rw (paper-groups (lane_of w i).windows.view inside) k.ready.groups in
-        let truth : AreTruthful (paper_in w.papers (lane_of w i).windows.view) (lane_of w i).windows = (k.lanes i within).windows in
-        lane-kept (after_fill (paper_in w.papers (lane_of w i).windows.view) n (lane_of w i))
+        let inside : (lane_of w i).windows.view < length w.paged_views = lane-ready.view in
+        let good : IsGroups (paged_in w.paged_views (lane_of w i).windows.view).groups = rw (paged-groups (lane_of w i).windows.view inside) k.ready.groups in
+        let truth : AreTruthful (paged_in w.paged_views (lane_of w i).windows.view) (lane_of w i).windows = (k.lanes i within).windows in
+        lane-kept (after_fill (paged_in w.paged_views (lane_of w i).windows.view) n (lane_of w i))
         (record { number = lane-ready.number; view = lane-ready.view; placed = tt; has_view = tt })
         (record {
           windows = record {
-            held = λ pair h. subst (λ x. HeldIs (paper_in w.papers (lane_of w i).windows.view) (lane_of w i).windows.cleared x) (cc) (fill-held (paper_in w.papers (lane_of w i).windows.view) (lane_of w i).windows.cleared n good truth.cleared);
+            held = λ pair h. subst (λ x. HeldIs (paged_in w.paged_views (lane_of w i).windows.view) (lane_of w i).windows.cleared x) (cc) (fill-held (paged_in w.paged_views (lane_of w i).windows.view) (lane_of w i).windows.cleared n good truth.cleared);
             cleared = truth.cleared;
           };
           phase = tt;
@@ -442,37 +443,37 @@ module _ (stays : RamStays) where
         let known : (x.entry.vcpu ≡ i) × IsTrap c w.board.schedule x.entry.vcpu x.entry.at x.entry.pc x.entry.view x.entry.chain.items × (x.entry.group ≡ group_at (groups_in c) x.entry.pc) =
         subst (λ y. PhaseIs c w.board.schedule i y) e (k.lanes i within).phase in
         let placed : (x.entry.view ≡ (lane_of w i).windows.view) × (x.group < groups_count w.groups) × (x.entry.group ≡ x.group) = subst (λ y. IsPlaced w.groups (lane_of w i) y) e lane-ready.placed in
-        let inside : (lane_of w i).windows.view < length w.papers = lane-ready.view in
+        let inside : (lane_of w i).windows.view < length w.paged_views = lane-ready.view in
         let r : IsLaneReady w i (after_mend w.groups x.group (lane_of w i)) = record { number = lane-ready.number; view = lane-ready.view; placed = tt; has_view = tt } in
         mended x.entry x.group inside r placed.0 placed.1 placed.2 known.1 known.2
       where
-        truth : (q : Paper) (g : ℕ) → q.groups ≡ w.groups → g < groups_count w.groups → is_present q.base q.log g ≡ true
+        truth : (q : PagedView) (g : ℕ) → q.groups ≡ w.groups → g < groups_count w.groups → is_present q.base q.log g ≡ true
             → AreTruthful q (record { view = (lane_of w i).windows.view; held = None; cleared = Some (range_of w.groups g) })
         truth q g same few here = record {
           held = λ pair h. absurd (cc);
           cleared = λ s h. subst (λ z. IsClearedOf q z) (cc) (record { group = g; range = ap (λ (t : Groups). range_of t g) (sym same); within = rw same few; present = here });
         }
 
-        mended : (entry : LogEntry) (g : ℕ) → (lane_of w i).windows.view < length w.papers → IsLaneReady w i (after_mend w.groups g (lane_of w i)) → entry.view ≡ (lane_of w i).windows.view
+        mended : (entry : LogEntry) (g : ℕ) → (lane_of w i).windows.view < length w.paged_views → IsLaneReady w i (after_mend w.groups g (lane_of w i)) → entry.view ≡ (lane_of w i).windows.view
             → g < groups_count w.groups → entry.group ≡ g
             → IsTrap c w.board.schedule entry.vcpu entry.at entry.pc entry.view entry.chain.items → entry.group ≡ group_at (groups_in c) entry.pc
-            → IsKept c (record w { papers = slice_set w.papers (lane_of w i).windows.view (patched (paper_in w.papers (lane_of w i).windows.view) entry); lanes = slice_set w.lanes i (after_mend w.groups g (lane_of w i)) })
+            → IsKept c (record w { paged_views = slice_set w.paged_views (lane_of w i).windows.view (patched (paged_in w.paged_views (lane_of w i).windows.view) entry); lanes = slice_set w.lanes i (after_mend w.groups g (lane_of w i)) })
         mended entry g inside r same few group trap at =
-            elim (is_present (paper_in w.papers (lane_of w i).windows.view).base (paper_in w.papers (lane_of w i).windows.view).log entry.group)
-            as (λ b. is_present (paper_in w.papers (lane_of w i).windows.view).base (paper_in w.papers (lane_of w i).windows.view).log entry.group ≡ b
-            → IsKept c (record w { papers = slice_set w.papers (lane_of w i).windows.view (if b then paper_in w.papers (lane_of w i).windows.view else logged (paper_in w.papers (lane_of w i).windows.view) entry); lanes = slice_set w.lanes i (after_mend w.groups g (lane_of w i)) })) [
+            elim (is_present (paged_in w.paged_views (lane_of w i).windows.view).base (paged_in w.paged_views (lane_of w i).windows.view).log entry.group)
+            as (λ b. is_present (paged_in w.paged_views (lane_of w i).windows.view).base (paged_in w.paged_views (lane_of w i).windows.view).log entry.group ≡ b
+            → IsKept c (record w { paged_views = slice_set w.paged_views (lane_of w i).windows.view (if b then paged_in w.paged_views (lane_of w i).windows.view else logged (paged_in w.paged_views (lane_of w i).windows.view) entry); lanes = slice_set w.lanes i (after_mend w.groups g (lane_of w i)) })) [
               | true ↦ λ here.
-                  subst (λ ps. IsKept c (record w { papers = ps; lanes = slice_set w.lanes i (after_mend w.groups g (lane_of w i)) })) (sym (set-same w.papers (lane_of w i).windows.view))
+                  subst (λ ps. IsKept c (record w { paged_views = ps; lanes = slice_set w.lanes i (after_mend w.groups g (lane_of w i)) })) (sym (set-same w.paged_views (lane_of w i).windows.view))
                   (lane-kept (after_mend w.groups g (lane_of w i)) r (record {
-                    windows = truth (paper_in w.papers (lane_of w i).windows.view) g (paper-groups (lane_of w i).windows.view inside) few (rw (← group) here);
+                    windows = truth (paged_in w.paged_views (lane_of w i).windows.view) g (paged-groups (lane_of w i).windows.view inside) few (rw (← group) here);
                     phase = tt;
                   }))
               | false ↦ λ here.
                   mend-kept (after_mend w.groups g (lane_of w i)) (lane_of w i).windows.view entry inside r same here trap at (record {
                     windows = subst (λ q. AreTruthful q (record { view = (lane_of w i).windows.view; held = None; cleared = Some (range_of w.groups g) }))
-                        (sym (set-get w.papers (lane_of w i).windows.view (logged (paper_in w.papers (lane_of w i).windows.view) entry) inside))
-                        (truth (logged (paper_in w.papers (lane_of w i).windows.view) entry) g (paper-groups (lane_of w i).windows.view inside) few
-                        (rw (← group) (present-new (paper_in w.papers (lane_of w i).windows.view) entry)));
+                        (sym (set-get w.paged_views (lane_of w i).windows.view (logged (paged_in w.paged_views (lane_of w i).windows.view) entry) inside))
+                        (truth (logged (paged_in w.paged_views (lane_of w i).windows.view) entry) g (paged-groups (lane_of w i).windows.view inside) few
+                        (rw (← group) (present-new (paged_in w.paged_views (lane_of w i).windows.view) entry)));
                     phase = tt;
                   })
             ] refl

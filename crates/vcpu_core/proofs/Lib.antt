@@ -6,3 +6,5 @@ pub mod Start
 pub mod Bases
 pub mod Waiting
 pub mod EveryOrder
+pub mod OneVcpu
+pub mod Ended

@@ -9,7 +9,7 @@ use Rattle.function_table.proofs.GroupLemmas.{group-below}
 use Rattle.chain_log.specs.declared.entry.LogEntry.{LogEntry}
 use Rattle.guest_ram.specs.Ram.{Ram, is_text}
 use Rattle.view_file.specs.Named.{view_named}
-use Rattle.view_store.specs.Paged.{Paper, patched, logged, is_present}
+use Rattle.view_store.specs.Paged.{PagedView, patched, logged, is_present}
 use Rattle.guest_board.specs.declared.step.Ready.{Ready}
 use Rattle.guest_board.specs.declared.seen.Windows.{Windows}
 use Rattle.guest_board.specs.declared.seen.Verdict.{Verdict}
@@ -22,7 +22,7 @@ use Rattle.vcpu_core.specs.declared.lane.Lane.{Lane}
 use Rattle.vcpu_core.specs.declared.lane.Phase.{Phase}
 use Rattle.vcpu_core.specs.declared.lane.Phase.TheVariants.{Running, Wants, Trapped, Looked}
 use Rattle.vcpu_core.specs.Lanes.{seated, blank_windows, after_turn, in_phase, emptied, after_fill, after_look, after_mend}
-use Rattle.vcpu_core.specs.World.{World, IsReady, IsLaneReady, IsPaperReady, IsPlaced, HasView, gone, lane_of, view_of, paper_in, blank_paper, blank_lane, windows_of, verdict_in, with_lane, after_event}
+use Rattle.vcpu_core.specs.World.{World, IsReady, IsLaneReady, IsPagedReady, IsPlaced, HasView, gone, lane_of, view_of, paged_in, blank_paged, blank_lane, windows_of, verdict_in, with_lane, after_event}
 use Rattle.vcpu_core.proofs.Verdicts.{verdict-may, ready-needs, ready-zeroes, ready-busy, IsNeed, IsZero}
 use Rattle.fc_numbers.specs.declared.places.Span.{Span}
 use Rattle.guest_ram.specs.Ram.{IsLaid}
@@ -44,14 +44,14 @@ pub set-lane : (P : ℕ → Lane → Type 0) (lanes : List Lane) (i : ℕ) (l : 
     → (k : ℕ) → k < length (slice_set lanes i l) → P k (slice_index_or (slice_set lanes i l) k (blank_lane k))
 set-lane = set-each-by blank_lane
 
-pub set-paper : (P : ℕ → Paper → Type 0) (papers : List Paper) (v : ℕ) (p : Paper)
-    → ((k : ℕ) → k < length papers → P k (paper_in papers k)) → P v p
-    → (k : ℕ) → k < length (slice_set papers v p) → P k (paper_in (slice_set papers v p) k)
-set-paper = set-each-by (λ k. blank_paper)
+pub set-paged : (P : ℕ → PagedView → Type 0) (paged_views : List PagedView) (v : ℕ) (p : PagedView)
+    → ((k : ℕ) → k < length paged_views → P k (paged_in paged_views k)) → P v p
+    → (k : ℕ) → k < length (slice_set paged_views v p) → P k (paged_in (slice_set paged_views v p) k)
+set-paged = set-each-by (λ k. blank_paged)
 
 -- a lane is ready in any world with the same groups, profile and names, and as many views
 pub lane-ready-in : (w w' : World) (k : ℕ) (l : Lane) → w'.groups ≡ w.groups → w'.profile ≡ w.profile → w'.board.state.names ≡ w.board.state.names
-    → length w'.papers ≡ length w.papers → IsLaneReady w k l → IsLaneReady w' k l
+    → length w'.paged_views ≡ length w.paged_views → IsLaneReady w k l → IsLaneReady w' k l
 lane-ready-in w w' k l g p n s r = record {
   number = r.number;
   view = rw s r.view;
@@ -79,7 +79,7 @@ board-lane-ready w i l b' r n new = record {
   apps = r.apps;
   views = r.views;
   lanes = simp length-set (r.lanes ∙ sym n.vcpus);
-  papers = λ v h. record { number = (r.papers v h).number; groups = (r.papers v h).groups };
+  paged_views = λ v h. record { number = (r.paged_views v h).number; groups = (r.paged_views v h).groups };
   each = set-lane (λ k x. IsLaneReady (record w { board = b'; lanes = slice_set w.lanes i l }) k x) w.lanes i l
       (λ k h. lane-ready-in w (record w { board = b'; lanes = slice_set w.lanes i l }) k (lane_of w k) refl refl n.names refl (r.each k h))
       (lane-ready-in w (record w { board = b'; lanes = slice_set w.lanes i l }) i l refl refl n.names refl new);
@@ -89,20 +89,20 @@ pub with_lane-ready : (w : World) (i : ℕ) (l : Lane) → IsReady w → IsLaneR
 with_lane-ready w i l r new = board-lane-ready w i l w.board r (same-board w.board) new
 
 -- the world with a view patched and one lane replaced
-pub patched-ready : (w : World) (i v : ℕ) (l : Lane) (p : Paper) → IsReady w → IsPaperReady w v p → IsLaneReady w i l
-    → IsReady (record w { papers = slice_set w.papers v p; lanes = slice_set w.lanes i l })
-patched-ready w i v l p r paper new = record {
+pub patched-ready : (w : World) (i v : ℕ) (l : Lane) (p : PagedView) → IsReady w → IsPagedReady w v p → IsLaneReady w i l
+    → IsReady (record w { paged_views = slice_set w.paged_views v p; lanes = slice_set w.lanes i l })
+patched-ready w i v l p r paged new = record {
   groups = r.groups;
   start = r.start;
   end = r.end;
   apps = r.apps;
   views = simp length-set r.views;
   lanes = simp length-set r.lanes;
-  papers = set-paper (λ k x. IsPaperReady (record w { papers = slice_set w.papers v p; lanes = slice_set w.lanes i l }) k x) w.papers v p
-      (λ k h. record { number = (r.papers k h).number; groups = (r.papers k h).groups }) (record { number = paper.number; groups = paper.groups });
-  each = set-lane (λ k x. IsLaneReady (record w { papers = slice_set w.papers v p; lanes = slice_set w.lanes i l }) k x) w.lanes i l
-      (λ k h. lane-ready-in w (record w { papers = slice_set w.papers v p; lanes = slice_set w.lanes i l }) k (lane_of w k) refl refl refl (simp length-set) (r.each k h))
-      (lane-ready-in w (record w { papers = slice_set w.papers v p; lanes = slice_set w.lanes i l }) i l refl refl refl (simp length-set) new);
+  paged_views = set-paged (λ k x. IsPagedReady (record w { paged_views = slice_set w.paged_views v p; lanes = slice_set w.lanes i l }) k x) w.paged_views v p
+      (λ k h. record { number = (r.paged_views k h).number; groups = (r.paged_views k h).groups }) (record { number = paged.number; groups = paged.groups });
+  each = set-lane (λ k x. IsLaneReady (record w { paged_views = slice_set w.paged_views v p; lanes = slice_set w.lanes i l }) k x) w.lanes i l
+      (λ k h. lane-ready-in w (record w { paged_views = slice_set w.paged_views v p; lanes = slice_set w.lanes i l }) k (lane_of w k) refl refl refl (simp length-set) (r.each k h))
+      (lane-ready-in w (record w { paged_views = slice_set w.paged_views v p; lanes = slice_set w.lanes i l }) i l refl refl refl (simp length-set) new);
 }
 
 -- a place of text, by the groups
@@ -131,7 +131,7 @@ pub named-below : (v : Rattle.view_file.specs.declared.views.Views.Views) (name 
 named-below v None = omega arith
 named-below v (Some name) = view-below v.apps name (Rattle.view_file.specs.Named.position_of name v.apps) refl
 
-view-inside : (w : World) (i : ℕ) → IsReady w → view_of w i < length w.papers
+view-inside : (w : World) (i : ℕ) → IsReady w → view_of w i < length w.paged_views
 view-inside w i r = omega (arith, r.views, named-below w.profile (name_of w.board.state i))
 
 -- a running lane after its turn
@@ -172,9 +172,9 @@ turned-ready w i l (Goes ready) r laid lane e =
       has_view = tt;
     })
 
-patched-paper : (w : World) (v : ℕ) (p : Paper) (e : LogEntry) (b : Bool) → IsPaperReady w v p → IsPaperReady w v (if b then p else logged p e)
-patched-paper w v p e true k = k
-patched-paper w v p e false k = record { number = k.number; groups = k.groups }
+patched-paged : (w : World) (v : ℕ) (p : PagedView) (e : LogEntry) (b : Bool) → IsPagedReady w v p → IsPagedReady w v (if b then p else logged p e)
+patched-paged w v p e true k = k
+patched-paged w v p e false k = record { number = k.number; groups = k.groups }
 
 -- an event keeps the parts together
 pub gone-ready : (w : World) (i : ℕ) (l : Lane) (phase : Phase) → may w.board.steps w.board.state i ≡ true → IsReady w → IsLaid w.board.state.ram → IsLaneReady w i l
@@ -184,12 +184,12 @@ gone-ready w i l Running m r laid lane e =
     subst (λ v. IsReady (after_event w i l (windows_of w i l) v)) (sym (verdict-may w.board.steps w.board.state i (windows_of w i l) m))
     (turned-ready w i l (by_ready w.board.state.ram.text.start (windows_of w i l) (ready_at w.board.state i)) r laid lane refl)
 gone-ready w i l (Wants n) m r laid lane e =
-    with_lane-ready w i (after_fill (paper_in w.papers l.windows.view) n l) r (record { number = lane.number; view = lane.view; placed = tt; has_view = tt })
+    with_lane-ready w i (after_fill (paged_in w.paged_views l.windows.view) n l) r (record { number = lane.number; view = lane.view; placed = tt; has_view = tt })
 gone-ready w i l (Trapped t) m r laid lane e =
     let placed : (t.view ≡ l.windows.view) × (w.groups.base ≤ t.pc) × (t.pc < w.groups.base + w.groups.size) = subst (λ x. IsPlaced w.groups l x) e lane.placed in
     let has : l.windows.view ≡ view_of w i = subst (λ x. HasView (view_of w i) l x) e lane.has_view in
     with_lane-ready w i (after_look w.groups t l) r (record { number = lane.number; view = lane.view; placed = (placed.0, group-below w.groups t.pc, refl); has_view = has })
 gone-ready w i l (Looked k) m r laid lane e =
-    patched-ready w i l.windows.view (after_mend w.groups k.group l) (patched (paper_in w.papers l.windows.view) k.entry) r
-    (patched-paper w l.windows.view (paper_in w.papers l.windows.view) k.entry (is_present (paper_in w.papers l.windows.view).base (paper_in w.papers l.windows.view).log k.entry.group) (r.papers l.windows.view lane.view))
+    patched-ready w i l.windows.view (after_mend w.groups k.group l) (patched (paged_in w.paged_views l.windows.view) k.entry) r
+    (patched-paged w l.windows.view (paged_in w.paged_views l.windows.view) k.entry (is_present (paged_in w.paged_views l.windows.view).base (paged_in w.paged_views l.windows.view).log k.entry.group) (r.paged_views l.windows.view lane.view))
     (record { number = lane.number; view = lane.view; placed = tt; has_view = tt })

@@ -15,14 +15,14 @@ use Rattle.guest_ram.specs.Ram.{Ram, IsLaid, IsLawful as IsLawfulRam, placed, ze
 use Rattle.guest_ram.proofs.Laws.{placed-text, placed_is_laid, length-placed, placed-within, placed-other, zero_ram_is_laid}
 use Rattle.rv_step.specs.declared.vcpu.Vcpu.{Vcpu}
 use Rattle.view_file.specs.Named.{view_named}
-use Rattle.view_store.specs.Paged.{Paper}
+use Rattle.view_store.specs.Paged.{PagedView}
 use Rattle.guest_board.specs.First.{first_state, first_ram, first_vcpus, first_vcpu, with_parts, text_of}
 use Rattle.run_evidence.specs.Config.{Config, IsConfig, IsLawful, groups_in, full}
 use Rattle.run_evidence.specs.Evidence.{IsAllowed}
 use Rattle.view_file.specs.declared.views.Views.{Views}
 use Rattle.vcpu_core.specs.declared.lane.Lane.{Lane}
-use Rattle.vcpu_core.specs.First.{first_world, first_papers, first_paper, first_lanes, first_lane}
-use Rattle.vcpu_core.specs.World.{World, IsReady, paper_in, blank_paper, blank_lane, lane_of, logs_of, go_all, erased}
+use Rattle.vcpu_core.specs.First.{first_world, first_paged_views, first_paged, first_lanes, first_lane}
+use Rattle.vcpu_core.specs.World.{World, IsReady, paged_in, blank_paged, blank_lane, lane_of, logs_of, go_all, erased}
 use Rattle.vcpu_core.specs.Sound.{IsSound, IsSoundView}
 use Rattle.vcpu_core.proofs.Truth.{HasText}
 use Rattle.vcpu_core.proofs.Kept.{IsKept, IsFull, IsTruthful, RamStays, go_all-kept, go_all-schedule}
@@ -100,30 +100,30 @@ first-memory c ok =
     )
 
 -- the members of the first lists
-papers-long : (c : Config) (n : ℕ) → length (first_papers c n) ≡ n
-unfolding first_papers
-papers-long c zero = refl
-papers-long c (suc n) = simp length-append (omega (arith, papers-long c n))
+pub paged-views-long : (c : Config) (n : ℕ) → length (first_paged_views c n) ≡ n
+unfolding first_paged_views
+paged-views-long c zero = refl
+paged-views-long c (suc n) = simp length-append (omega (arith, paged-views-long c n))
 
-papers-at : (c : Config) (n v : ℕ) → v < n → paper_in (first_papers c n) v ≡ first_paper c v
-unfolding first_papers
-papers-at c zero v h = absurd (omega (arith, h))
-papers-at c (suc n) v h =
-    let long : length (first_papers c n) ≡ n = papers-long c n in
-    let before : v < n → paper_in (first_papers c n ++ first_paper c n ∷ []) v ≡ first_paper c v = λ b. get_or_append_left (first_papers c n) (first_paper c n ∷ []) blank_paper v (omega (arith, long, b)) ∙ papers-at c n v b in
-    let now : v ≡ n → paper_in (first_papers c n ++ first_paper c n ∷ []) v ≡ first_paper c v = λ e.
-    ap (λ x. paper_in (first_papers c n ++ first_paper c n ∷ []) x) (e ∙ sym long) ∙ get_or-append_seam (first_papers c n) (first_paper c n) [] blank_paper ∙ ap (λ x. first_paper c x) (sym e) in
+pub paged-views-at : (c : Config) (n v : ℕ) → v < n → paged_in (first_paged_views c n) v ≡ first_paged c v
+unfolding first_paged_views
+paged-views-at c zero v h = absurd (omega (arith, h))
+paged-views-at c (suc n) v h =
+    let long : length (first_paged_views c n) ≡ n = paged-views-long c n in
+    let before : v < n → paged_in (first_paged_views c n ++ first_paged c n ∷ []) v ≡ first_paged c v = λ b. get_or_append_left (first_paged_views c n) (first_paged c n ∷ []) blank_paged v (omega (arith, long, b)) ∙ paged-views-at c n v b in
+    let now : v ≡ n → paged_in (first_paged_views c n ++ first_paged c n ∷ []) v ≡ first_paged c v = λ e.
+    ap (λ x. paged_in (first_paged_views c n ++ first_paged c n ∷ []) x) (e ∙ sym long) ∙ get_or-append_seam (first_paged_views c n) (first_paged c n) [] blank_paged ∙ ap (λ x. first_paged c x) (sym e) in
     elim (lt-or-eq v n h) [ inl b ↦ before b | inr e ↦ now e ]
   where
     lt-or-eq : (v n : ℕ) → v < suc n → (v < n) ⊎ (v ≡ n)
     lt-or-eq v n h = grind (arith, h)
 
-lanes-long : (v n : ℕ) → length (first_lanes v n) ≡ n
+pub lanes-long : (v n : ℕ) → length (first_lanes v n) ≡ n
 unfolding first_lanes
 lanes-long v zero = refl
 lanes-long v (suc n) = simp length-append (omega (arith, lanes-long v n))
 
-lanes-at : (v n i : ℕ) → i < n → slice_index_or (first_lanes v n) i (blank_lane i) ≡ first_lane v i
+pub lanes-at : (v n i : ℕ) → i < n → slice_index_or (first_lanes v n) i (blank_lane i) ≡ first_lane v i
 unfolding first_lanes
 lanes-at v zero i h = absurd (omega (arith, h))
 lanes-at v (suc n) i h =
@@ -145,7 +145,7 @@ pub first_ready : (c : Config) → IsConfig c → IsReady (first_world c)
 unfolding first_world first_state
 first_ready c ok =
     let memory : IsLaid (first_ram c.image c.setup.ram) × HasText (first_ram c.image c.setup.ram) c.image.base c.image.text = first-memory c ok in
-    let few : length (first_papers c (length c.views.apps + 1)) ≡ length c.views.apps + 1 = papers-long c (length c.views.apps + 1) in
+    let few : length (first_paged_views c (length c.views.apps + 1)) ≡ length c.views.apps + 1 = paged-views-long c (length c.views.apps + 1) in
     let view : ℕ = view_named c.views c.setup.start in
     let many : length (first_lanes (view_named c.views c.setup.start) c.setup.vcpus) ≡ c.setup.vcpus = lanes-long (view_named c.views c.setup.start) c.setup.vcpus in
     record {
@@ -155,7 +155,7 @@ first_ready c ok =
       apps = ok.views.few;
       views = few;
       lanes = many ∙ sym (vcpus-long c.image.entry c.setup.vcpus);
-      papers = λ v h. rw (papers-at c (length c.views.apps + 1) v (rw few at h)) (record { number = refl; groups = refl });
+      paged_views = λ v h. rw (paged-views-at c (length c.views.apps + 1) v (rw few at h)) (record { number = refl; groups = refl });
       each = λ i h. rw (lanes-at (view_named c.views c.setup.start) c.setup.vcpus i (rw many at h))
           (record { number = refl; view = rw few (named-below c.views c.setup.start); placed = tt; has_view = tt });
     }
@@ -183,13 +183,13 @@ first-full c ok = record {
   text = (first-memory c ok).1;
 }
 
-first-views : (c : Config) (v : ℕ) → v < length (first_world c).papers → IsSoundView c (first_world c).board.schedule v (paper_in (first_world c).papers v)
+first-views : (c : Config) (v : ℕ) → v < length (first_world c).paged_views → IsSoundView c (first_world c).board.schedule v (paged_in (first_world c).paged_views v)
 unfolding first_world
 first-views c v h =
-    rw (papers-at c (length c.views.apps + 1) v (rw (papers-long c (length c.views.apps + 1)) at h))
+    rw (paged-views-at c (length c.views.apps + 1) v (rw (paged-views-long c (length c.views.apps + 1)) at h))
     (record { number = refl; text = refl; groups = refl; base = refl; of_view = tt; justified = tt; once = tt })
 
-first-truthful : (c : Config) (k : ℕ) → k < length (first_world c).lanes → IsTruthful c (first_world c).board.schedule (first_world c).papers k (lane_of (first_world c) k)
+first-truthful : (c : Config) (k : ℕ) → k < length (first_world c).lanes → IsTruthful c (first_world c).board.schedule (first_world c).paged_views k (lane_of (first_world c) k)
 unfolding first_world
 first-truthful c k h =
     rw (lanes-at (view_named c.views c.setup.start) c.setup.vcpus k (rw (lanes-long (view_named c.views c.setup.start) c.setup.vcpus) at h))
@@ -201,7 +201,7 @@ first-kept c ok = record {
   profile = first-profile c;
   groups = first-groups c;
   board = first-full c ok;
-  papers = first-views c;
+  paged_views = first-views c;
   lanes = first-truthful c;
   allowed = λ t p h n. absurd (omega (arith, subst (λ (s : List ℕ). t < length s) (first-schedule c) h));
 }
@@ -218,6 +218,6 @@ module _ (stays : RamStays) where
         lawful = subst (λ h. IsLawful c h) same k.board.lawful;
         state = k.board.state ∙ ap (λ h. full c h) same;
         numbered = k.ready.views ∙ ap (λ (x : Views). length x.apps + 1) k.profile;
-        views = λ v h. subst (λ s. IsSoundView c s v (paper_in (go_all (first_world c) is).papers v)) same (k.papers v h);
-        allowed = subst (λ s. IsAllowed c (logs_of (go_all (first_world c) is).papers) s) same k.allowed;
+        views = λ v h. subst (λ s. IsSoundView c s v (paged_in (go_all (first_world c) is).paged_views v)) same (k.paged_views v h);
+        allowed = subst (λ s. IsAllowed c (logs_of (go_all (first_world c) is).paged_views) s) same k.allowed;
       }

@@ -12,7 +12,7 @@ use Rattle.function_table.proofs.GroupLemmas.{range_is}
 use Rattle.chain_log.specs.declared.entry.LogEntry.{LogEntry}
 use Rattle.guest_ram.specs.Ram.{Ram, is_text, value}
 use Rattle.guest_ram.specs.Value.{value_at}
-use Rattle.view_store.specs.Paged.{Paper, masked, pair_of, is_present, logged}
+use Rattle.view_store.specs.Paged.{PagedView, masked, pair_of, is_present, logged}
 use Rattle.guest_board.specs.declared.fetch.Fetched.{Fetched}
 use Rattle.guest_board.specs.declared.fetch.Fetched.TheVariants.{Short, Long, Faults, Stops}
 use Rattle.guest_board.specs.declared.step.Ready.{Ready}
@@ -61,27 +61,27 @@ text-half ram base text p k e =
     rw (one, two) (omega arith)
 
 -- the pair has the original halfwords of a present group
-pub record IsOriginal (p : Paper) (pair : Pair) : Type 0 where
+pub record IsOriginal (p : PagedView) (pair : Pair) : Type 0 where
   pub first : first_of pair ≡ half_of p.text pair.at
   pub second : group_in p.groups.starts (2 * (pair.at + 1)) ≡ group_in p.groups.starts (2 * pair.at) → second_of pair ≡ half_of p.text (pair.at + 1)
   pub present : is_present p.base p.log (group_in p.groups.starts (2 * pair.at)) ≡ true
 
 -- or it was taken while its group was missing, and no place of that halfword is cleared
-pub record IsMissing (p : Paper) (cleared : Option Span) (pair : Pair) : Type 0 where
+pub record IsMissing (p : PagedView) (cleared : Option Span) (pair : Pair) : Type 0 where
   pub zero : first_of pair ≡ 0
   pub uncleared : (q : ℕ) → p.groups.base ≤ q → q < p.groups.base + p.groups.size → half_no p.groups.base q ≡ pair.at → is_cleared cleared q ≡ false
 
-abbrev pub HeldIs : Paper → Option Span → Pair → Type 0
+abbrev pub HeldIs : PagedView → Option Span → Pair → Type 0
 HeldIs p cleared pair = IsOriginal p pair ⊎ IsMissing p cleared pair
 
 -- the cleared range is that of a present group
-pub record IsClearedOf (p : Paper) (s : Span) : Type 0 where
+pub record IsClearedOf (p : PagedView) (s : Span) : Type 0 where
   pub group : ℕ
   pub range : s ≡ range_of p.groups group
   pub within : group < groups_count p.groups
   pub present : is_present p.base p.log group ≡ true
 
-pub record AreTruthful (p : Paper) (w : Windows) : Type 0 where
+pub record AreTruthful (p : PagedView) (w : Windows) : Type 0 where
   pub held : (pair : Pair) → w.held ≡ Some pair → HeldIs p w.cleared pair
   pub cleared : (s : Span) → w.cleared ≡ Some s → IsClearedOf p s
 
@@ -89,7 +89,7 @@ apart : (a b : ℕ) → a ≢ b → (a == b) ≡ false
 apart a b ne = grind (arith, nat_tests)
 
 -- a pair that is taken from the pages is truthful
-filled-by : (p : Paper) (cleared : Option Span) (n : ℕ) (here : Bool) → is_present p.base p.log (group_in p.groups.starts (2 * n)) ≡ here
+filled-by : (p : PagedView) (cleared : Option Span) (n : ℕ) (here : Bool) → is_present p.base p.log (group_in p.groups.starts (2 * n)) ≡ here
     → IsGroups p.groups → ((s : Span) → cleared ≡ Some s → IsClearedOf p s) → HeldIs p cleared (pair_of p n)
 filled-by p cleared n true here good truth = inl (record {
   first = rw here refl;
@@ -108,31 +108,31 @@ filled-by p (Some s) n false here good truth = inr (record {
       rw k.range (other ∙ apart (group_at p.groups q) k.group not_it);
 })
 
-pub fill-held : (p : Paper) (cleared : Option Span) (n : ℕ) → IsGroups p.groups → ((s : Span) → cleared ≡ Some s → IsClearedOf p s) → HeldIs p cleared (pair_of p n)
+pub fill-held : (p : PagedView) (cleared : Option Span) (n : ℕ) → IsGroups p.groups → ((s : Span) → cleared ≡ Some s → IsClearedOf p s) → HeldIs p cleared (pair_of p n)
 fill-held p cleared n good truth = filled-by p cleared n (is_present p.base p.log (group_in p.groups.starts (2 * n))) refl good truth
 
 -- an entry more takes nothing away
-pub present-more : (p : Paper) (e : LogEntry) (g : ℕ) → is_present p.base p.log g ≡ true → is_present p.base (p.log ++ e ∷ []) g ≡ true
+pub present-more : (p : PagedView) (e : LogEntry) (g : ℕ) → is_present p.base p.log g ≡ true → is_present p.base (p.log ++ e ∷ []) g ≡ true
 present-more p e g h = grind (arith, common_steps, h)
 
-pub present-new : (p : Paper) (e : LogEntry) → is_present p.base (p.log ++ e ∷ []) e.group ≡ true
+pub present-new : (p : PagedView) (e : LogEntry) → is_present p.base (p.log ++ e ∷ []) e.group ≡ true
 present-new p e = grind (arith, common_steps, nat_tests)
 
-cleared-logged : (p : Paper) (e : LogEntry) (s : Span) → IsClearedOf p s → IsClearedOf (logged p e) s
+cleared-logged : (p : PagedView) (e : LogEntry) (s : Span) → IsClearedOf p s → IsClearedOf (logged p e) s
 cleared-logged p e s k = record { group = k.group; range = k.range; within = k.within; present = present-more p e k.group k.present }
 
-held-logged : (p : Paper) (e : LogEntry) (cleared : Option Span) (pair : Pair) → HeldIs p cleared pair → HeldIs (logged p e) cleared pair
+held-logged : (p : PagedView) (e : LogEntry) (cleared : Option Span) (pair : Pair) → HeldIs p cleared pair → HeldIs (logged p e) cleared pair
 held-logged p e cleared pair (inl o) = inl (record { first = o.first; second = o.second; present = present-more p e (group_in p.groups.starts (2 * pair.at)) o.present })
 held-logged p e cleared pair (inr m) = inr (record { zero = m.zero; uncleared = m.uncleared })
 
-pub truthful-logged : (p : Paper) (e : LogEntry) (w : Windows) → AreTruthful p w → AreTruthful (logged p e) w
+pub truthful-logged : (p : PagedView) (e : LogEntry) (w : Windows) → AreTruthful p w → AreTruthful (logged p e) w
 truthful-logged p e w k = record {
   held = λ pair h. held-logged p e w.cleared pair (k.held pair h);
   cleared = λ s h. cleared-logged p e s (k.cleared s h);
 }
 
 -- truthful windows hold the original of what is read, whose group is present
-pub read-original : (p : Paper) (w : Windows) (begins goes : Ready) (r : IsRead p.groups.base w begins goes) → AreTruthful p w
+pub read-original : (p : PagedView) (w : Windows) (begins goes : Ready) (r : IsRead p.groups.base w begins goes) → AreTruthful p w
     → p.groups.base ≤ r.place → r.place < p.groups.base + p.groups.size → IsOriginal p r.pair
 read-original p w begins goes r truth low high = by_held (truth.held r.pair r.held) where
   by_held : HeldIs p w.cleared r.pair → IsOriginal p r.pair
@@ -147,7 +147,7 @@ if-place : (text : Bool) (q p : ℕ) → place_if text q ≡ Some p → (text �
 if-place true q p e = (refl, cc)
 if-place false q p e = absurd (cc)
 
-module _ (p : Paper) (ram : Ram) (good : IsGroups p.groups) (has : HasText ram p.groups.base p.text) (size : p.groups.size ≡ length p.text)
+module _ (p : PagedView) (ram : Ram) (good : IsGroups p.groups) (has : HasText ram p.groups.base p.text) (size : p.groups.size ≡ length p.text)
     (joined : (n : ℕ) → half_of p.text n % 4 ≡ 3 → group_in p.groups.starts (2 * (n + 1)) ≡ group_in p.groups.starts (2 * n))
     (place : ℕ) (pair : Pair) (at : pair.at ≡ half_no p.groups.base place) (o : IsOriginal p pair) where
   first-same : is_text ram place ≡ true → first_of pair ≡ half_at ram place

@@ -22,7 +22,7 @@ use Rattle.vcpu_core.specs.declared.lane.Went.{Went}
 use Rattle.vcpu_core.specs.declared.lane.Went.TheVariants.{Over, Stepped, Erased}
 use Rattle.vcpu_core.specs.Lanes.{seated, blank_windows, emptied, after_turn, in_phase, after_fill, after_look, after_mend, went_by}
 use Rattle.vcpu_core.specs.Waits.{unfilled, filled, held_waits, window_waits, phase_waits, waits_of, left_of}
-use Rattle.vcpu_core.specs.World.{World, IsReady, IsLaneReady, IsPlaced, HasView, paper_in, gone, went_in, go_of, went_of, go_all, lane_of, view_of, windows_of, verdict_in, with_lane, after_event, blank_lane}
+use Rattle.vcpu_core.specs.World.{World, IsReady, IsLaneReady, IsPlaced, HasView, paged_in, gone, went_in, go_of, went_of, go_all, lane_of, view_of, windows_of, verdict_in, with_lane, after_event, blank_lane}
 use Rattle.vcpu_core.specs.Sound.{AllErased}
 use Rattle.vcpu_core.proofs.Verdicts.{verdict-may, ready-needs, ready-zeroes, ready-busy, IsNeed, IsZero}
 use Rattle.vcpu_core.proofs.Ready.{next-in, windows-view}
@@ -112,7 +112,7 @@ module _ (w : World) (i : ℕ) (l : Lane) (m : may w.board.steps w.board.state i
       (turned-nearer (verdict_in w i (windows_of w i l)) (sym v) e erased)
   gone-nearer (Wants n) e lane erased =
       let has : l.windows.view ≡ view_of w i = subst (λ p. HasView (view_of w i) l p) e lane.has_view in
-      rw (replaced (after_fill (paper_in w.papers l.windows.view) n l), e, seated-again (view_of w i) (after_fill (paper_in w.papers l.windows.view) n l).windows has) (omega arith)
+      rw (replaced (after_fill (paged_in w.paged_views l.windows.view) n l), e, seated-again (view_of w i) (after_fill (paged_in w.paged_views l.windows.view) n l).windows has) (omega arith)
   gone-nearer (Trapped trap) e lane erased = rw (replaced (after_look w.groups trap l), e) (omega arith)
   gone-nearer (Looked k) e lane erased =
       let has : l.windows.view ≡ view_of w i = subst (λ p. HasView (view_of w i) l p) e lane.has_view in

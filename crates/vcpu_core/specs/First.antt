@@ -4,7 +4,7 @@ use Rattle.std.specs.Prelude.{ℕ, ◌+◌, Option, List, [], ◌∷◌, ◌++�
 use Rattle.std.proofs.Common.{zero, suc}
 use Rattle.view_file.specs.Named.{view_named}
 use Rattle.view_file.specs.Base.{base_of}
-use Rattle.view_store.specs.Paged.{Paper}
+use Rattle.view_store.specs.Paged.{PagedView}
 use Rattle.guest_board.specs.First.{first_seat}
 use Rattle.run_evidence.specs.Config.{Config, groups_in}
 use Rattle.vcpu_core.specs.declared.lane.Lane.{Lane}
@@ -12,12 +12,12 @@ use Rattle.vcpu_core.specs.declared.lane.Phase.TheVariants.{Running}
 use Rattle.vcpu_core.specs.Lanes.{blank_windows}
 use Rattle.vcpu_core.specs.World.{World}
 
-abbrev pub first_paper : Config → ℕ → Paper
-first_paper c v = record { number = v; text = c.image.text; groups = groups_in c; base = base_of c.views (groups_in c) v; log = [] }
+abbrev pub first_paged : Config → ℕ → PagedView
+first_paged c v = record { number = v; text = c.image.text; groups = groups_in c; base = base_of c.views (groups_in c) v; log = [] }
 
-unfoldable pub first_papers : Config → ℕ → List Paper
-first_papers c zero = []
-first_papers c (suc n) = first_papers c n ++ first_paper c n ∷ []
+unfoldable pub first_paged_views : Config → ℕ → List PagedView
+first_paged_views c zero = []
+first_paged_views c (suc n) = first_paged_views c n ++ first_paged c n ∷ []
 
 abbrev pub first_lane : ℕ → ℕ → Lane
 first_lane v i = record { vcpu = i; windows = blank_windows v; phase = Running }
@@ -31,6 +31,6 @@ first_world c = record {
   profile = c.views;
   groups = groups_in c;
   board = first_seat c.image c.setup;
-  papers = first_papers c (length c.views.apps + 1);
+  paged_views = first_paged_views c (length c.views.apps + 1);
   lanes = first_lanes (view_named c.views c.setup.start) c.setup.vcpus;
 }

@@ -2,11 +2,10 @@
 -- The rule: a lane holds one pair of its view's halfwords at most, and drops it after each step, at each mend and
 -- where the view changes; a mend clears the range of the group that it restored, or found present.
 use Rattle.std.specs.Prelude.{ℕ, ◌==◌, if◌then◌else◌, Some, None}
-use Rattle.function_table.specs.Groups.{Groups, group_at, range_of}
+use Rattle.function_table.specs.Groups.{Groups, range_of}
 use Rattle.chain_log.specs.declared.entry.Trapped.{Trapped}
-use Rattle.chain_log.specs.declared.entry.LogEntry.{LogEntry}
-use Rattle.recovery.specs.declared.Looked.{Looked}
-use Rattle.view_store.specs.Paged.{Paper, pair_of}
+use Rattle.recovery.specs.Recovery.{looked_of}
+use Rattle.view_store.specs.Paged.{PagedView, pair_of}
 use Rattle.guest_board.specs.declared.seen.Windows.{Windows}
 use Rattle.guest_board.specs.declared.seen.Verdict.{Verdict}
 use Rattle.guest_board.specs.declared.seen.Verdict.TheVariants.{Idle, Needs, Zeroes, Goes}
@@ -45,15 +44,8 @@ went_by (Needs n) = went.Erased
 went_by (Zeroes place) = went.Erased
 went_by (Goes ready) = went.Stepped
 
-abbrev pub after_fill : Paper → ℕ → Lane → Lane
+abbrev pub after_fill : PagedView → ℕ → Lane → Lane
 after_fill p n l = in_phase l (record { view = l.windows.view; held = Some (pair_of p n); cleared = l.windows.cleared }) phase.Running
-
--- the trap with its group
-abbrev pub looked_of : Groups → Trapped → Looked
-looked_of groups t = record {
-  group = group_at groups t.pc;
-  entry = record { view = t.view; group = group_at groups t.pc; vcpu = t.vcpu; at = t.at; pc = t.pc; chain = t.chain };
-}
 
 abbrev pub after_look : Groups → Trapped → Lane → Lane
 after_look groups t l = in_phase l l.windows (phase.Looked (looked_of groups t))

@@ -3,4 +3,5 @@ pub mod World
 pub mod Waits
 pub mod First
 pub mod Sound
+pub mod Missed
 pub mod Whole

@@ -7,7 +7,7 @@ world_of k = record {
   profile = k.profile.now;
   groups = k.table.now;
   board = k.board;
-  papers = k.views.items;
+  paged_views = k.views.items;
   lanes = k.lanes.items;
 }
 

@@ -6,7 +6,7 @@ use Rattle.chain_log.specs.declared.entry.LogEntry.{LogEntry}
 use Rattle.view_file.specs.declared.views.Views.{Views}
 use Rattle.view_file.specs.declared.views.TheConstants.{APPS_MOST}
 use Rattle.view_file.specs.Named.{view_named}
-use Rattle.view_store.specs.Paged.{Paper, patched}
+use Rattle.view_store.specs.Paged.{PagedView, patched}
 use Rattle.guest_board.specs.declared.seen.Windows.{Windows}
 use Rattle.guest_board.specs.declared.seen.Verdict.{Verdict}
 use Rattle.guest_board.specs.Board.{State, Seat, may, name_of}
@@ -23,26 +23,26 @@ pub record World : Type 0 where
   pub profile : Views
   pub groups : Groups
   pub board : Seat
-  pub papers : List Paper
+  pub paged_views : List PagedView
   pub lanes : List Lane
 
 abbrev pub blank_groups : Groups
 blank_groups = record { base = 0; size = 0; functions = []; starts = [] }
 
-abbrev pub blank_paper : Paper
-blank_paper = record { number = 0; text = []; groups = blank_groups; base = []; log = [] }
+abbrev pub blank_paged : PagedView
+blank_paged = record { number = 0; text = []; groups = blank_groups; base = []; log = [] }
 
 abbrev pub blank_lane : ℕ → Lane
 blank_lane i = record { vcpu = i; windows = blank_windows 0; phase = Running }
 
-abbrev pub paper_in : List Paper → ℕ → Paper
-paper_in papers v = slice_index_or papers v blank_paper
+abbrev pub paged_in : List PagedView → ℕ → PagedView
+paged_in paged_views v = slice_index_or paged_views v blank_paged
 
 abbrev pub lane_of : World → ℕ → Lane
 lane_of w i = slice_index_or w.lanes i (blank_lane i)
 
-abbrev pub logs_of : List Paper → List (List LogEntry)
-logs_of papers = map (λ p. p.log) papers
+abbrev pub logs_of : List PagedView → List (List LogEntry)
+logs_of paged_views = map (λ p. p.log) paged_views
 
 -- the view of a vCPU: that of its app name
 abbrev pub view_of : World → ℕ → ℕ
@@ -67,10 +67,10 @@ after_event w i l windows verdict = record w {
 -- one event of vCPU i, by the phase of its lane
 unfoldable pub gone : World → ℕ → Lane → Phase → World
 gone w i l Running = after_event w i l (windows_of w i l) (verdict_in w i (windows_of w i l))
-gone w i l (Wants n) = with_lane w i (after_fill (paper_in w.papers l.windows.view) n l)
+gone w i l (Wants n) = with_lane w i (after_fill (paged_in w.paged_views l.windows.view) n l)
 gone w i l (Trapped trap) = with_lane w i (after_look w.groups trap l)
 gone w i l (Looked looked) = record w {
-  papers = slice_set w.papers l.windows.view (patched (paper_in w.papers l.windows.view) looked.entry);
+  paged_views = slice_set w.paged_views l.windows.view (patched (paged_in w.paged_views l.windows.view) looked.entry);
   lanes = slice_set w.lanes i (after_mend w.groups looked.group l);
 }
 
@@ -118,11 +118,11 @@ HasView v l (Looked k) = l.windows.view ≡ v
 
 pub record IsLaneReady (w : World) (i : ℕ) (l : Lane) : Type 0 where
   pub number : l.vcpu ≡ i
-  pub view : l.windows.view < length w.papers
+  pub view : l.windows.view < length w.paged_views
   pub placed : IsPlaced w.groups l l.phase
   pub has_view : HasView (view_of w i) l l.phase
 
-pub record IsPaperReady (w : World) (v : ℕ) (p : Paper) : Type 0 where
+pub record IsPagedReady (w : World) (v : ℕ) (p : PagedView) : Type 0 where
   pub number : p.number ≡ v
   pub groups : p.groups ≡ w.groups
 
@@ -132,7 +132,7 @@ pub record IsReady (w : World) : Type 0 where
   pub start : w.board.state.ram.text.start ≡ w.groups.base
   pub end : w.board.state.ram.text.end ≡ w.groups.base + w.groups.size
   pub apps : length w.profile.apps ≤ APPS_MOST
-  pub views : length w.papers ≡ length w.profile.apps + 1
+  pub views : length w.paged_views ≡ length w.profile.apps + 1
   pub lanes : length w.lanes ≡ length w.board.state.vcpus
-  pub papers : (v : ℕ) → v < length w.papers → IsPaperReady w v (paper_in w.papers v)
+  pub paged_views : (v : ℕ) → v < length w.paged_views → IsPagedReady w v (paged_in w.paged_views v)
   pub each : (i : ℕ) → i < length w.lanes → IsLaneReady w i (lane_of w i)

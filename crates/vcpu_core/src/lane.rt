@@ -9,7 +9,7 @@ ghost use Rattle.guest_board.specs.declared.seen.Windows.{Windows};
 ghost use Rattle.guest_board.specs.declared.seen.Verdict.{Verdict};
 ghost use Rattle.guest_board.specs.Board.{name_of};
 ghost use Rattle.guest_board.specs.Seen.{verdict_of, after_verdict};
-ghost use Rattle.vcpu_core.specs.Lanes.{after_turn, after_fill, after_look, after_mend, went_by, seated, looked_of};
+ghost use Rattle.vcpu_core.specs.Lanes.{after_turn, after_fill, after_look, after_mend, went_by, seated};
 
 use chain_log::entry::Trapped;
 use fc_numbers::name::Name;

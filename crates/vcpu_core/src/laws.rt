@@ -1,10 +1,12 @@
 //! What is true after any list of events. Nothing here runs: each function has a law as its contract.
 
-ghost use Rattle.std.specs.Prelude.{ℕ, List, replicate};
+ghost use Rattle.std.specs.Prelude.{◌≡◌, ℕ, None, List, replicate};
 ghost use Rattle.run_evidence.specs.Config.{Config, IsConfig};
 ghost use Rattle.vcpu_core.specs.First.{first_world};
-ghost use Rattle.vcpu_core.specs.World.{go_all, erased};
+ghost use Rattle.vcpu_core.specs.declared.lane.Went.TheVariants.{Over};
+ghost use Rattle.vcpu_core.specs.World.{go_all, went_of, erased};
 ghost use Rattle.vcpu_core.specs.Sound.{IsSound, AllErased};
+ghost use Rattle.vcpu_core.specs.Missed.{HasEnded, EachLogsItsMisses, FirstLogsAllMisses};
 
 /// After any list of events the board is the full kernel's run of the steps that were made, in a lawful schedule; the
 /// views are numbered in order, each over the image's text with its base; every fetch of kernel text was allowed; every
@@ -18,4 +20,25 @@ pub fn every_order_is_sound()
 #[tactic(auto, using(crate::proofs::EveryOrder::ten_events))]
 pub fn one_in_ten_events_steps()
     ensures { (c : Config) → IsConfig c → (is : List ℕ) (i : ℕ) → AllErased (go_all (first_world c) is) i 10 → ⊥ }
+{}
+
+/// With one vCPU, once the run has ended, the log of each view is exactly the misses under that view, in order.
+#[tactic(auto, using(crate::proofs::OneVcpu::each_logs_its_misses))]
+pub fn one_vcpu_logs_its_misses()
+    ensures { (c : Config) → IsConfig c → c.setup.vcpus ≡ 1 → (is : List ℕ) → HasEnded (go_all (first_world c) is)
+        → EachLogsItsMisses c (go_all (first_world c) is) (erased (first_world c) is) }
+{}
+
+/// With one vCPU and no hook, so that no name changes, the log of the view of the setup's name is every miss of an
+/// ended run, in order.
+pub fn without_hook_first_view_logs_all_misses()
+    ensures { (c : Config) → IsConfig c → c.setup.vcpus ≡ 1 → c.setup.hook ≡ None → (is : List ℕ) → HasEnded (go_all (first_world c) is)
+        → FirstLogsAllMisses c (go_all (first_world c) is) (erased (first_world c) is) }
+{}
+
+/// With one vCPU, an event is `Over` only where the run has ended: until then the vCPU may step.
+#[tactic(auto, using(crate::proofs::Ended::over_is_ended))]
+pub fn one_vcpu_goes_on_until_the_end()
+    ensures { (c : Config) → IsConfig c → c.setup.vcpus ≡ 1 → (is : List ℕ) → went_of (go_all (first_world c) is) 0 ≡ Over
+        → HasEnded (go_all (first_world c) is) }
 {}

@@ -6,13 +6,13 @@ ghost use Rattle.function_table.specs.Groups.{groups_of, groups_count};
 ghost use Rattle.view_file.specs.declared.views.TheConstants.{APPS_MOST};
 ghost use Rattle.view_file.specs.Named.{view_named};
 ghost use Rattle.view_file.specs.Fits.{IsViewsFor};
-ghost use Rattle.view_store.specs.Paged.{Paper};
+ghost use Rattle.view_store.specs.Paged.{PagedView};
 ghost use Rattle.run_evidence.specs.Config.{Config, groups_in};
 ghost use Rattle.vcpu_core.specs.declared.lane.Lane.{Lane};
 ghost use Rattle.vcpu_core.specs.declared.lane.Phase.{Phase};
-ghost use Rattle.vcpu_core.specs.First.{first_world, first_papers, first_lanes, first_paper, first_lane};
+ghost use Rattle.vcpu_core.specs.First.{first_world, first_paged_views, first_lanes, first_paged, first_lane};
 ghost use Rattle.vcpu_core.specs.Waits.{left_of};
-ghost use Rattle.vcpu_core.specs.World.{World, go_of, went_of, go_all, gone, went_in, IsPlaced, IsReady, IsLaneReady, HasView, paper_in, blank_paper, lane_of, view_of};
+ghost use Rattle.vcpu_core.specs.World.{World, go_of, went_of, go_all, gone, went_in, IsPlaced, IsReady, IsLaneReady, HasView, paged_in, blank_paged, lane_of, view_of};
 
 use crate::lane::{Lane, Phase, Went, fill, look_up, mend, turn};
 use crate::open::{start_lanes, start_views};
@@ -65,16 +65,16 @@ fn event(
 ) -> Went
     requires number { lane.old.vcpu < length board.old.state.vcpus }
     requires view { lane.old.windows.view < length views.old }
-    requires paper { (paper_in views.old lane.old.windows.view).number ≡ lane.old.windows.view }
-    requires groups { (paper_in views.old lane.old.windows.view).groups ≡ table.now }
+    requires paged { (paged_in views.old lane.old.windows.view).number ≡ lane.old.windows.view }
+    requires groups { (paged_in views.old lane.old.windows.view).groups ≡ table.now }
     requires placed { IsPlaced table.now lane.old lane.old.phase }
     requires few { length profile.now.apps ≤ APPS_MOST }
     ensures after { (lanes : List Lane) →
-        (let old : World = record { profile = profile.now; groups = table.now; board = board.old; papers = views.old; lanes = lanes } in
-        let new : World = record { profile = profile.now; groups = table.now; board = board.new; papers = views.new; lanes = slice_set lanes lane.old.vcpu lane.new } in
+        (let old : World = record { profile = profile.now; groups = table.now; board = board.old; paged_views = views.old; lanes = lanes } in
+        let new : World = record { profile = profile.now; groups = table.now; board = board.new; paged_views = views.new; lanes = slice_set lanes lane.old.vcpu lane.new } in
         new ≡ gone old lane.old.vcpu lane.old lane.old.phase) }
     ensures answer { (lanes : List Lane) →
-        (let old : World = record { profile = profile.now; groups = table.now; board = board.old; papers = views.old; lanes = lanes } in
+        (let old : World = record { profile = profile.now; groups = table.now; board = board.old; paged_views = views.old; lanes = lanes } in
         result ≡ went_in old lane.old.vcpu lane.old lane.old.phase) }
 {
     match mem::replace(&mut lane.phase, Phase::Running) {
@@ -141,15 +141,15 @@ impl<'a> Core<'a> {
 
     /// How many views there are: the full view, and one for each app.
     pub fn views(&self) -> usize
-        ensures { result ≡ length self.now.papers }
+        ensures { result ≡ length self.now.paged_views }
     {
         self.views.len()
     }
 
     /// The entries of view v so far, in the order in which the groups were restored.
     pub fn log(&self, v: ViewNo) -> &[LogEntry]
-        requires { v < length self.now.papers }
-        ensures { result.now ≡ (paper_in self.now.papers v).log }
+        requires { v < length self.now.paged_views }
+        ensures { result.now ≡ (paged_in self.now.paged_views v).log }
     {
         self.views[v.0 as usize].log()
     }

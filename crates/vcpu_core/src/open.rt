@@ -6,7 +6,7 @@ ghost use Rattle.guest_image.specs.Accepted.{IsImage};
 ghost use Rattle.guest_image.specs.declared.setup.Setup.{Setup};
 ghost use Rattle.view_file.specs.declared.views.TheConstants.{APPS_MOST};
 ghost use Rattle.view_file.specs.Fits.{IsViewsFor};
-ghost use Rattle.vcpu_core.specs.First.{first_papers, first_lanes};
+ghost use Rattle.vcpu_core.specs.First.{first_paged_views, first_lanes};
 
 use crate::lane::{Lane, Phase};
 use fc_numbers::memory::NoMemory;
@@ -19,7 +19,7 @@ use view_file::views::Views;
 use view_store::view::View;
 
 /// A view for each app and the full view, each with its base and an empty log.
-#[tactic(auto, unfolding(crate::specs::First::first_papers), using(crate::proofs::Bases::base_of_long))]
+#[tactic(auto, unfolding(crate::specs::First::first_paged_views), using(crate::proofs::Bases::base_of_long))]
 pub(crate) fn start_views(
     alloc: Global,
     image: &Image,
@@ -30,7 +30,7 @@ pub(crate) fn start_views(
     requires views { IsViewsFor profile.now image.now }
     requires table { table.now ≡ groups_of image.now }
     ensures { (setup : Setup) → IfOk result (λ views.
-        views.items ≡ first_papers (record { image = image.now; setup = setup; views = profile.now }) (length profile.now.apps + 1)) }
+        views.items ≡ first_paged_views (record { image = image.now; setup = setup; views = profile.now }) (length profile.now.apps + 1)) }
 {
     let count = profile.apps.as_slice().len() as u8 + 1;
     let mut views = Vec::new(alloc);

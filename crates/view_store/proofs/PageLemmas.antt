@@ -10,7 +10,7 @@ use Rattle.fc_numbers.specs.declared.places.Span.{Span}
 use Rattle.function_table.specs.Groups.{Groups, IsRangeOf, group_in, group_at, groups_count, half_of, is_between}
 use Rattle.function_table.proofs.GroupLemmas.{group-below}
 use Rattle.chain_log.specs.declared.entry.LogEntry.{LogEntry}
-use Rattle.view_store.specs.Paged.{Paper, masked, logged, patched, is_present, is_logged, AreMissed}
+use Rattle.view_store.specs.Paged.{PagedView, masked, logged, patched, is_present, is_logged, AreMissed}
 
 -- halfwords past the end of text are 0
 half-past : (text : List ℕ) (n : ℕ) → length text ≤ 2 * n → half_of text n ≡ 0
@@ -78,7 +78,7 @@ masked-cases true group restored half old was = grind (arith, nat_tests)
 masked-cases false group restored half old was = grind (arith, nat_tests)
 
 -- the pages after a patch are the mask of the longer log
-pub masked-logged : (p : Paper) (e : LogEntry) (pages restored : List ℕ) (n : ℕ)
+pub masked-logged : (p : PagedView) (e : LogEntry) (pages restored : List ℕ) (n : ℕ)
     → slice_index pages n ≡ masked p n
     → slice_index restored n ≡ (if group_in p.groups.starts (2 * n) == e.group then half_of p.text n else slice_index pages n)
     → slice_index restored n ≡ masked (logged p e) n
@@ -120,10 +120,10 @@ missed-logged number base (x ∷ xs) e were view within absent new =
     (were.0, were.1, were.2, other, missed-logged number base xs e were.4 view within absent apart.1)
 
 -- a patch keeps the view's number and groups
-pub patched-number : (p : Paper) (e : LogEntry) → (patched p e).number ≡ p.number
+pub patched-number : (p : PagedView) (e : LogEntry) → (patched p e).number ≡ p.number
 patched-number p e = elim (is_present p.base p.log e.group) as (λ b. (if b then p else logged p e).number ≡ p.number) [ true ↦ refl | false ↦ refl ]
 
-pub patched-groups : (p : Paper) (e : LogEntry) → (patched p e).groups ≡ p.groups
+pub patched-groups : (p : PagedView) (e : LogEntry) → (patched p e).groups ≡ p.groups
 patched-groups p e = elim (is_present p.base p.log e.group) as (λ b. (if b then p else logged p e).groups ≡ p.groups) [ true ↦ refl | false ↦ refl ]
 
 pub ruleset patched_keeps = (patched-number, patched-groups)

@@ -6,7 +6,7 @@ use Rattle.fc_numbers.specs.declared.pair.Pair.{Pair}
 use Rattle.function_table.specs.Groups.{Groups, IsGroups, group_in, groups_count, half_of}
 use Rattle.chain_log.specs.declared.entry.LogEntry.{LogEntry}
 
-pub record Paper : Type 0 where
+pub record PagedView : Type 0 where
   pub number : ℕ
   pub text : List ℕ
   pub groups : Groups
@@ -21,16 +21,16 @@ abbrev pub is_present : List Bool → List LogEntry → ℕ → Bool
 is_present base log g = slice_index_or base g false || is_logged log g
 
 -- halfword n of the pages: that of the text where its group is present, else 0
-abbrev pub masked : Paper → ℕ → ℕ
+abbrev pub masked : PagedView → ℕ → ℕ
 masked p n = if is_present p.base p.log (group_in p.groups.starts (2 * n)) then half_of p.text n else 0
 
-abbrev pub pair_of : Paper → ℕ → Pair
+abbrev pub pair_of : PagedView → ℕ → Pair
 pair_of p n = record { at = n; halves = masked p n ∷ masked p (n + 1) ∷ [] }
 
-abbrev pub logged : Paper → LogEntry → Paper
+abbrev pub logged : PagedView → LogEntry → PagedView
 logged p e = record { number = p.number; text = p.text; groups = p.groups; base = p.base; log = p.log ++ e ∷ [] }
 
-abbrev pub patched : Paper → LogEntry → Paper
+abbrev pub patched : PagedView → LogEntry → PagedView
 patched p e = if is_present p.base p.log e.group then p else logged p e
 
 -- the entries are for this view, each of a group that the base lacks, and no group twice
@@ -39,7 +39,7 @@ AreMissed number base [] = Unit {0}
 AreMissed number base (e ∷ log) = (e.view ≡ number) × (e.group < length base) × (slice_index_or base e.group false ≡ false) × (is_logged log e.group ≡ false) × AreMissed number base log
 
 -- what holds of every view
-pub record IsPaper (p : Paper) : Type 0 where
+pub record IsLawfulView (p : PagedView) : Type 0 where
   pub groups : IsGroups p.groups
   pub size : p.groups.size ≡ length p.text
   pub base : length p.base ≡ groups_count p.groups

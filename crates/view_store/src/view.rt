@@ -3,7 +3,7 @@
 ghost use Rattle.std.specs.Prelude.{◌≡◌, ◌≤◌, ◌<◌, ◌+◌, ◌*◌, ◌↔◌, [], ℕ, false, length, slice_index, slice_index_or, if◌then◌else◌, IfOk, IsTrue};
 ghost use Rattle.guest_image.specs.Accepted.{IsImage};
 ghost use Rattle.function_table.specs.Groups.{groups_count};
-ghost use Rattle.view_store.specs.Paged.{IsPaper, is_present, masked, pair_of, patched};
+ghost use Rattle.view_store.specs.Paged.{IsLawfulView, is_present, masked, pair_of, patched};
 
 use crate::pages::{mask, restore_group};
 use chain_log::entry::LogEntry;
@@ -38,12 +38,12 @@ pub struct View {
 }
 
 impl Model for View {
-    ghost use Rattle.view_store.specs.Paged.{Paper};
-    ghost use Rattle.view_store.specs.PagedIn.{paper_of, IsPaged};
+    ghost use Rattle.view_store.specs.Paged.{PagedView};
+    ghost use Rattle.view_store.specs.PagedIn.{paged_of, IsPaged};
 
-    ghost Value = { Paper };
+    ghost Value = { PagedView };
 
-    ghost view = { paper_of };
+    ghost view = { paged_of };
 
     ghost invariant = { IsPaged };
 }
@@ -80,7 +80,7 @@ impl View {
     /// The view's number.
     pub fn number(&self) -> ViewNo
         ensures value { result ≡ self.now.number }
-        ensures lawful { IsPaper self.now }
+        ensures lawful { IsLawfulView self.now }
     {
         self.number
     }
@@ -121,7 +121,7 @@ impl View {
     /// The entries of the restored groups, in the order in which they were restored.
     pub fn log(&self) -> &[LogEntry]
         ensures value { result.now ≡ self.now.log }
-        ensures lawful { IsPaper self.now }
+        ensures lawful { IsLawfulView self.now }
     {
         &self.log
     }

@@ -6,10 +6,10 @@ use Rattle.std.proofs.lemmas.Grind.{common_steps}
 use Rattle.guest_ram.specs.Ram.{IsLaid}
 use Rattle.guest_board.specs.Board.{Seat, may}
 use Rattle.guest_board.proofs.Steps.{may-vcpu}
-use Rattle.view_store.specs.Paged.{Paper}
+use Rattle.view_store.specs.Paged.{PagedView}
 use Rattle.vcpu_core.specs.declared.lane.Lane.{Lane}
 use Rattle.vcpu_core.specs.declared.machine.Core.TheInside.{Inside}
-use Rattle.vcpu_core.specs.World.{World, IsReady, IsLaneReady, IsPaperReady, lane_of, paper_in, gone}
+use Rattle.vcpu_core.specs.World.{World, IsReady, IsLaneReady, IsPagedReady, lane_of, paged_in, gone}
 use Rattle.vcpu_core.specs.Whole.{world_of}
 use Rattle.vcpu_core.proofs.Ready.{gone-ready}
 use Rattle.vcpu_core.proofs.machine.Core.make_event.Goals as goal
@@ -38,19 +38,19 @@ event-requires-clause-view c =
     let ready : IsLaneReady (world_of c.self.inside) c.args.i c.index_mut.result.now = ready_in c in
     subst (λ x. c.index_mut.result.now.windows.view < length x) (sym c.deref_mut.ensures.value) ready.view
 
-pub event-requires-clause-paper : goal.event-requires-clause-paper
-event-requires-clause-paper c =
+pub event-requires-clause-paged : goal.event-requires-clause-paged
+event-requires-clause-paged c =
     let ready : IsLaneReady (world_of c.self.inside) c.args.i c.index_mut.result.now = ready_in c in
-    let paper : IsPaperReady (world_of c.self.inside) c.index_mut.result.now.windows.view (paper_in c.self.inside.views.items c.index_mut.result.now.windows.view)
-    = c.self.invariant.papers c.index_mut.result.now.windows.view ready.view in
-    subst (λ x. (paper_in x c.index_mut.result.now.windows.view).number ≡ c.index_mut.result.now.windows.view) (sym c.deref_mut.ensures.value) paper.number
+    let paged : IsPagedReady (world_of c.self.inside) c.index_mut.result.now.windows.view (paged_in c.self.inside.views.items c.index_mut.result.now.windows.view)
+    = c.self.invariant.paged_views c.index_mut.result.now.windows.view ready.view in
+    subst (λ x. (paged_in x c.index_mut.result.now.windows.view).number ≡ c.index_mut.result.now.windows.view) (sym c.deref_mut.ensures.value) paged.number
 
 pub event-requires-clause-groups : goal.event-requires-clause-groups
 event-requires-clause-groups c =
     let ready : IsLaneReady (world_of c.self.inside) c.args.i c.index_mut.result.now = ready_in c in
-    let paper : IsPaperReady (world_of c.self.inside) c.index_mut.result.now.windows.view (paper_in c.self.inside.views.items c.index_mut.result.now.windows.view)
-    = c.self.invariant.papers c.index_mut.result.now.windows.view ready.view in
-    subst (λ x. (paper_in x c.index_mut.result.now.windows.view).groups ≡ c.self.inside.table.now) (sym c.deref_mut.ensures.value) paper.groups
+    let paged : IsPagedReady (world_of c.self.inside) c.index_mut.result.now.windows.view (paged_in c.self.inside.views.items c.index_mut.result.now.windows.view)
+    = c.self.invariant.paged_views c.index_mut.result.now.windows.view ready.view in
+    subst (λ x. (paged_in x c.index_mut.result.now.windows.view).groups ≡ c.self.inside.table.now) (sym c.deref_mut.ensures.value) paged.groups
 
 pub event-requires-clause-placed : goal.event-requires-clause-placed
 event-requires-clause-placed c =
@@ -66,14 +66,14 @@ invariant_of-self c =
     let ready : IsLaneReady w c.args.i l = ready_lane w c.args.i l m c.self.invariant at in
     let laid : IsLaid w.board.state.ram = subst IsLaid c.ram.ensures c.text-laid.ensures.laid in
     let kept : IsReady (gone w c.args.i l l.phase) = gone-ready w c.args.i l l.phase m c.self.invariant laid ready refl in
-    let made : List Paper → ℕ → Type 0 = λ papers n.
-    (record { profile = c.self.inside.profile.now; groups = c.self.inside.table.now; board = c.event.new.board; papers = c.event.new.views; lanes = slice_set c.self.inside.lanes.items n c.event.new.lane }
-    ≡ gone (record { profile = c.self.inside.profile.now; groups = c.self.inside.table.now; board = c.self.inside.board; papers = papers; lanes = c.self.inside.lanes.items }) n l l.phase) in
+    let made : List PagedView → ℕ → Type 0 = λ paged_views n.
+    (record { profile = c.self.inside.profile.now; groups = c.self.inside.table.now; board = c.event.new.board; paged_views = c.event.new.views; lanes = slice_set c.self.inside.lanes.items n c.event.new.lane }
+    ≡ gone (record { profile = c.self.inside.profile.now; groups = c.self.inside.table.now; board = c.self.inside.board; paged_views = paged_views; lanes = c.self.inside.lanes.items }) n l l.phase) in
     let first : made c.deref_mut.result.now l.vcpu = c.event.ensures.after c.self.inside.lanes.items in
-    let second : made c.self.inside.views.items l.vcpu = subst (λ papers. made papers l.vcpu) c.deref_mut.ensures.value first in
+    let second : made c.self.inside.views.items l.vcpu = subst (λ paged_views. made paged_views l.vcpu) c.deref_mut.ensures.value first in
     let third : made c.self.inside.views.items c.args.i = subst (made c.self.inside.views.items) ready.number second in
-    let after : List Paper → ℕ → World = λ papers n.
-    record { profile = c.self.inside.profile.now; groups = c.self.inside.table.now; board = c.event.new.board; papers = papers; lanes = slice_set c.self.inside.lanes.items n c.event.new.lane } in
+    let after : List PagedView → ℕ → World = λ paged_views n.
+    record { profile = c.self.inside.profile.now; groups = c.self.inside.table.now; board = c.event.new.board; paged_views = paged_views; lanes = slice_set c.self.inside.lanes.items n c.event.new.lane } in
     let fourth : IsReady (after c.event.new.views c.args.i) = subst IsReady (sym third) kept in
     let long : length c.self.inside.views.items ≡ vec_len c.self.inside.views = ap length (sym c.deref_mut.ensures.value) ∙ c.deref_mut.ensures.len in
     let as_long : length c.event.new.views ≡ vec_len c.self.inside.views = fourth.views ∙ sym c.self.invariant.views ∙ long in

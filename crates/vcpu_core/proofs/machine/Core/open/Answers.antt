@@ -2,12 +2,12 @@ use Rattle.std.proofs.Common.{◌≡◌, ℕ, ◌+◌, sym, ◌∙◌, subst, ap
 use Rattle.std.proofs.lemmas.Grind.{common_steps}
 use Rattle.function_table.specs.Groups.{Groups}
 use Rattle.view_file.specs.Named.{view_named}
-use Rattle.view_store.specs.Paged.{Paper}
+use Rattle.view_store.specs.Paged.{PagedView}
 use Rattle.guest_board.specs.Board.{Seat}
 use Rattle.guest_board.specs.First.{first_seat}
 use Rattle.run_evidence.specs.Config.{Config, IsConfig}
 use Rattle.vcpu_core.specs.declared.lane.Lane.{Lane}
-use Rattle.vcpu_core.specs.First.{first_world, first_papers, first_lanes}
+use Rattle.vcpu_core.specs.First.{first_world, first_paged_views, first_lanes}
 use Rattle.vcpu_core.specs.World.{World, IsReady}
 use Rattle.vcpu_core.specs.Whole.{world_of}
 use Rattle.vcpu_core.proofs.Start.{first_ready}
@@ -18,15 +18,15 @@ unfolding first_world
 invariant_of-result c =
     let given : Config = record { image = c.args.image.now; setup = c.args.setup.now; views = c.args.profile.now } in
     let ok : IsConfig given = record { image = c.requires.image; setup = c.requires.setup; views = c.requires.views } in
-    let after : Groups → Seat → List Paper → List Lane → World = λ groups board papers lanes.
-    record { profile = c.args.profile.now; groups = groups; board = board; papers = papers; lanes = lanes } in
+    let after : Groups → Seat → List PagedView → List Lane → World = λ groups board paged_views lanes.
+    record { profile = c.args.profile.now; groups = groups; board = board; paged_views = paged_views; lanes = lanes } in
     let chosen : c.choose.result ≡ view_named c.args.profile.now c.args.setup.now.start = grind (arith, common_steps) in
     let seat : Seat = first_seat c.args.image.now c.args.setup.now in
-    let papers : List Paper = first_papers given (length c.args.profile.now.apps + 1) in
+    let paged_views : List PagedView = first_paged_views given (length c.args.profile.now.apps + 1) in
     let lanes : List Lane = first_lanes (view_named c.args.profile.now c.args.setup.now.start) c.args.setup.now.vcpus in
     let same_lanes : c.in_ok-lanes.lanes.items ≡ lanes = c.in_ok-lanes.ensures ∙ ap (λ v. first_lanes v c.args.setup.now.vcpus) chosen in
-    let one : IsReady (after c.args.table.now seat papers lanes) = subst (λ x. IsReady (after x seat papers lanes)) (sym c.requires.table) (first_ready given ok) in
-    let two : IsReady (after c.args.table.now c.in_ok-board.board papers lanes) = subst (λ x. IsReady (after c.args.table.now x papers lanes)) (sym c.in_ok-board.ensures) one in
+    let one : IsReady (after c.args.table.now seat paged_views lanes) = subst (λ x. IsReady (after x seat paged_views lanes)) (sym c.requires.table) (first_ready given ok) in
+    let two : IsReady (after c.args.table.now c.in_ok-board.board paged_views lanes) = subst (λ x. IsReady (after c.args.table.now x paged_views lanes)) (sym c.in_ok-board.ensures) one in
     let three : IsReady (after c.args.table.now c.in_ok-board.board c.in_ok-views.views.items lanes)
     = subst (λ x. IsReady (after c.args.table.now c.in_ok-board.board x lanes)) (sym (c.in_ok-views.ensures c.args.setup.now)) two in
     subst (λ x. IsReady (after c.args.table.now c.in_ok-board.board c.in_ok-views.views.items x)) (sym same_lanes) three

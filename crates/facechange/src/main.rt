@@ -1,0 +1,26 @@
+//! The monitor's program: runs a kernel under the view of an application.
+#![tactic(auto)]
+
+use facechange_cli::command::face_change_still;
+use fc_outside::host::{HostSink, HostStore};
+use std::env::Env;
+use std::process::ExitCode;
+use std::{env, io};
+
+fn words<R: Env + AllocGlobal>(rt: &R) -> io::Result<Vec<String>> {
+    let mut words = Vec::new(rt.alloc());
+    for word in env::args(rt)?.skip(1) {
+        words.push(word)?;
+    }
+    Ok(words)
+}
+
+fn main(rt: HostRuntime) -> ExitCode {
+    let mut err = HostSink::new(rt.stderr());
+    let Ok(words) = words(&rt) else {
+        return ExitCode::from(10);
+    };
+    let mut store = HostStore::new(&rt);
+    let mut out = HostSink::new(rt.stdout());
+    ExitCode::from(face_change_still(rt.alloc(), &words, &mut store, &mut out, &mut err))
+}

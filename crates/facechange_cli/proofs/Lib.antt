@@ -1,0 +1,6 @@
+pub mod Decimals
+pub mod Forms
+pub mod Printed
+pub mod Lone
+pub mod Setups
+pub mod Refusals

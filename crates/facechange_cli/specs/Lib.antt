@@ -1,0 +1,6 @@
+pub mod Words
+pub mod Files
+pub mod Alone
+pub mod Answers
+pub mod Command
+pub mod Inner
