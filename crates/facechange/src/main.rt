@@ -3,6 +3,7 @@
 
 use facechange_cli::command::face_change_still;
 use fc_outside::host::{HostSink, HostStore};
+use fc_outside::outside::Sink;
 use std::env::Env;
 use std::process::ExitCode;
 use std::{env, io};
@@ -18,6 +19,7 @@ fn words<R: Env + AllocGlobal>(rt: &R) -> io::Result<Vec<String>> {
 fn main(rt: HostRuntime) -> ExitCode {
     let mut err = HostSink::new(rt.stderr());
     let Ok(words) = words(&rt) else {
+        let _ = err.put(b"10 memory\n");
         return ExitCode::from(10);
     };
     let mut store = HostStore::new(&rt);

@@ -44,9 +44,10 @@ risen faults name = record { count = one_more faults.count; last = kept_name nam
 abbrev pub Rose : ℕ → ℕ → Type 0
 Rose before after = one_more before ≤ after
 
--- the count rose, with this name as the last
+-- the count rose by one, or stayed at the greatest, with this name as the last
 pub record IsFaultOf (name : List ℕ) (before after : Faults) : Type 0 where
   pub later : before.count ≤ after.count
+  pub once : after.count ≤ before.count + 1
   pub rose : Rose before.count after.count
   pub last : after.last ≡ kept_name name
 
@@ -78,9 +79,10 @@ pub record GrewByPart (piece : List ℕ) (before after : Option (List ℕ)) : Ty
   pub size : ℕ
   pub grown : after ≡ with_more (take size piece) before
 
--- the count of a sink rose
+-- the count of a sink rose by one, or stayed at the greatest
 pub record IsFault (before after : ℕ) : Type 0 where
   pub later : before ≤ after
+  pub once : after ≤ before + 1
   pub rose : Rose before after
 
 -- a put counts a fault where it failed, and nowhere else

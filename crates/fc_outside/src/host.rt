@@ -1,6 +1,8 @@
 //! The host's files, standard output and standard error: the trusted edge. They tell no content.
 
-ghost use Rattle.std.specs.Prelude.{◌≡◌, ◌≤◌, None, IfOk, OnOk, OnErr, length};
+ghost use Rattle.std.specs.Prelude.{◌≡◌, ◌≤◌, ◌<◌, None, IfOk, IfErr, IfSome, OnOk, OnErr, length};
+ghost use Rattle.std.specs.Io.KnownBytes.{Appends};
+ghost use Rattle.fc_outside.specs.declared.host.Unread.TheVariants.{TooLong};
 ghost use Rattle.fc_outside.specs.Outside.{Faults, IsFaultOf};
 
 use crate::faults::FaultCount;
@@ -114,7 +116,10 @@ fn read_file<R: Files>(rt: &R, alloc: Global, name: &str, limit: usize) -> Resul
 
 /// Bytes of a reader up to its end, at most `limit`.
 fn read_all<F: Read>(alloc: Global, from: &mut F, limit: usize) -> Result<Vec<u8>, Unread>
-    ensures { IfOk result (λ bytes. length bytes.items ≤ limit) }
+    ensures within { IfOk result (λ bytes. length bytes.items ≤ limit) }
+    // Where the reader tells what it has left, it is all of that, and more than the limit where it is too long.
+    ensures whole { IfOk result (λ bytes. IfSome (F.remaining from.old) (λ left. bytes.items ≡ left)) }
+    ensures long { IfErr result (λ why. why ≡ TooLong → IfSome (F.remaining from.old) (λ left. limit < length left)) }
 {
     let mut bytes = Vec::new(alloc);
     let mut chunk = [0u8; CHUNK];
@@ -142,7 +147,9 @@ fn write_file<R: Files>(rt: &R, name: &str, bytes: &[u8]) -> io::Result<()> {
 }
 
 /// Writes all the bytes. A write that takes none of them is an error.
-fn write_all<F: Write>(to: &mut F, bytes: &[u8]) -> io::Result<()> {
+fn write_all<F: Write>(to: &mut F, bytes: &[u8]) -> io::Result<()>
+    ensures { OnOk result (Appends (F.contents to.old) (F.contents to.new) bytes.now) }
+{
     let mut rest = bytes;
     while !rest.is_empty() {
         let count = to.write(rest)?;

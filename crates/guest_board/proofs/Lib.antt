@@ -5,3 +5,5 @@ pub mod Steps
 pub mod Stays
 pub mod Parts
 pub mod Started
+pub mod Ends
+pub mod Others

@@ -6,3 +6,4 @@ pub mod Seen
 pub mod SeenFacts
 pub mod First
 pub mod Housed
+pub mod Laws

@@ -4,6 +4,7 @@
 //! - [`step`]: one step of one vCPU: the interrupt that is due, else the fetch, the trap or the effect.
 //! - [`seen`]: what a vCPU does by the halfwords that its lane holds of a view.
 //! - [`board`]: the board and its steps.
+//! - [`laws`]: what every step leaves as it is.
 //!
 //! `Board::step_full` is one step of the full machine, which reads instructions from the original memory; no view
 //! occurs in it. `Board::step_seen` is the same step by the halfwords of a view that are handed in, whatever they
@@ -13,6 +14,9 @@
 
 pub mod board;
 pub mod fetch;
+pub mod laws;
 mod open;
 pub mod seen;
 pub mod step;
+#[cfg(test)]
+mod tests;

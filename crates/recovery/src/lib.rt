@@ -43,3 +43,6 @@ pub fn look(table: &Table, t: Trapped) -> Looked
         },
     }
 }
+
+#[cfg(test)]
+mod tests;

@@ -8,3 +8,4 @@ pub mod Waiting
 pub mod EveryOrder
 pub mod OneVcpu
 pub mod Ended
+pub mod Staged

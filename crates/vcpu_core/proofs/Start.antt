@@ -16,7 +16,7 @@ use Rattle.guest_ram.proofs.Laws.{placed-text, placed_is_laid, length-placed, pl
 use Rattle.rv_step.specs.declared.vcpu.Vcpu.{Vcpu}
 use Rattle.view_file.specs.Named.{view_named}
 use Rattle.view_store.specs.Paged.{PagedView}
-use Rattle.guest_board.specs.First.{first_state, first_ram, first_vcpus, first_vcpu, with_parts, text_of}
+use Rattle.guest_board.specs.First.{first_seat, first_state, first_ram, first_vcpus, first_vcpu, with_parts, text_of}
 use Rattle.run_evidence.specs.Config.{Config, IsConfig, IsLawful, groups_in, full}
 use Rattle.run_evidence.specs.Evidence.{IsAllowed}
 use Rattle.view_file.specs.declared.views.Views.{Views}
@@ -159,6 +159,11 @@ first_ready c ok =
       each = λ i h. rw (lanes-at (view_named c.views c.setup.start) c.setup.vcpus i (rw many at h))
           (record { number = refl; view = rw few (named-below c.views c.setup.start); placed = tt; has_view = tt });
     }
+
+-- the text has few enough pages for a second-stage table
+pub first_few : (c : Config) → IsConfig c → (first_seat c.image c.setup).state.ram.text.end ≤ (first_seat c.image c.setup).state.ram.text.start + 1024 * PAGE
+unfolding first_state
+first_few c ok = let text : HasText (first_ram c.image c.setup.ram) c.image.base c.image.text = (first-memory c ok).1 in omega (arith, text.start, text.end, ok.image.most)
 
 first-profile : (c : Config) → (first_world c).profile ≡ c.views
 unfolding first_world

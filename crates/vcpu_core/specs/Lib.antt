@@ -5,3 +5,4 @@ pub mod First
 pub mod Sound
 pub mod Missed
 pub mod Whole
+pub mod Stages

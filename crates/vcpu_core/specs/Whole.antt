@@ -1,6 +1,8 @@
 -- How a core keeps its parts together.
+use Rattle.std.specs.Prelude.{◌+◌, length}
 use Rattle.vcpu_core.specs.declared.machine.Core.TheInside.{Inside}
 use Rattle.vcpu_core.specs.World.{World, IsReady}
+use Rattle.vcpu_core.specs.Stages.{AreStagesFor}
 
 abbrev pub world_of : Inside → World
 world_of k = record {
@@ -11,5 +13,7 @@ world_of k = record {
   lanes = k.lanes.items;
 }
 
-abbrev pub IsWhole : Inside → Type 0
-IsWhole k = IsReady (world_of k)
+-- the world is ready, and each view has its second-stage table for the board's memory
+pub record IsWhole (k : Inside) : Type 0 where
+  pub ready : IsReady (world_of k)
+  pub stages : AreStagesFor k.board.state.ram (length k.profile.now.apps + 1) k.stages.items

@@ -9,12 +9,14 @@ ghost use Rattle.guest_board.specs.declared.seen.Windows.{Windows};
 ghost use Rattle.guest_board.specs.declared.seen.Verdict.{Verdict};
 ghost use Rattle.guest_board.specs.Board.{name_of};
 ghost use Rattle.guest_board.specs.Seen.{verdict_of, after_verdict};
+ghost use Rattle.vcpu_core.specs.Stages.{IsStageFor};
 ghost use Rattle.vcpu_core.specs.Lanes.{after_turn, after_fill, after_look, after_mend, went_by, seated};
 
 use chain_log::entry::Trapped;
 use fc_numbers::name::Name;
 use fc_numbers::places::{VcpuNo, ViewNo};
 use function_table::table::Table;
+use gstage::table::GTable;
 use guest_board::board::Board;
 use guest_board::seen::{Seen, Windows};
 use recovery::{Looked, look};
@@ -65,10 +67,11 @@ fn seat(view: ViewNo, windows: Windows) -> Windows
     }
 }
 
-/// One event of a lane that runs.
-pub(crate) fn turn(board: &mut Board, profile: &Views, lane: &mut Lane) -> Went
+/// One event of a lane that runs. Each access of a step asks the table of the vCPU's view where its place lies.
+pub(crate) fn turn(board: &mut Board, profile: &Views, stage: &GTable, lane: &mut Lane) -> Went
     requires number { lane.old.vcpu < length board.old.state.vcpus }
     requires few { length profile.now.apps ≤ APPS_MOST }
+    requires stage { IsStageFor board.old.state.ram (view_named profile.now (name_of board.old.state lane.old.vcpu)) stage.now }
     ensures board { let w : Windows = seated (view_named profile.now (name_of board.old.state lane.old.vcpu)) lane.old.windows in
         board.new ≡ after_verdict board.old lane.old.vcpu (verdict_of board.old.steps board.old.state lane.old.vcpu w) }
     ensures lane { let w : Windows = seated (view_named profile.now (name_of board.old.state lane.old.vcpu)) lane.old.windows in
@@ -77,8 +80,7 @@ pub(crate) fn turn(board: &mut Board, profile: &Views, lane: &mut Lane) -> Went
         result ≡ went_by (verdict_of board.old.steps board.old.state lane.old.vcpu w) }
 {
     let windows = seat(profile.choose(board.name_of(lane.vcpu)), lane.windows);
-    let stage = board.flat();
-    match board.step_seen(lane.vcpu, &windows, &stage) {
+    match board.step_seen(lane.vcpu, &windows, stage) {
         Seen::Over => Went::Over,
         Seen::Stepped => {
             lane.windows = Windows {

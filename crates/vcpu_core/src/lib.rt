@@ -7,8 +7,9 @@
 //! `Core::go` is one event of the view machine, exactly. After any list of events the board is the full kernel's run of
 //! the steps that were made, each fetch of kernel text was of code that the view has or had restored by then, each
 //! entry of a log names missing code about to be fetched, and no view has a group twice. Among any ten events of one
-//! vCPU that may still step, one is a step. With one vCPU, the logs of an ended run are its misses, view by view. Below
-//! stand the board, the views and the evidence; above, the program.
+//! vCPU that may still step, one is a step. With one vCPU, the logs of an ended run are its misses, view by view. A step
+//! under a view goes through the second-stage table of that view, which is built when the core opens. Below stand the
+//! board, the second stage, the views and the evidence; above, the program.
 #![tactic(auto)]
 
 pub mod lane;

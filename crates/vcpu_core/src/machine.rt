@@ -11,16 +11,18 @@ ghost use Rattle.run_evidence.specs.Config.{Config, groups_in};
 ghost use Rattle.vcpu_core.specs.declared.lane.Lane.{Lane};
 ghost use Rattle.vcpu_core.specs.declared.lane.Phase.{Phase};
 ghost use Rattle.vcpu_core.specs.First.{first_world, first_paged_views, first_lanes, first_paged, first_lane};
+ghost use Rattle.vcpu_core.specs.Stages.{AreStagesFor};
 ghost use Rattle.vcpu_core.specs.Waits.{left_of};
 ghost use Rattle.vcpu_core.specs.World.{World, go_of, went_of, go_all, gone, went_in, IsPlaced, IsReady, IsLaneReady, HasView, paged_in, blank_paged, lane_of, view_of};
 
 use crate::lane::{Lane, Phase, Went, fill, look_up, mend, turn};
-use crate::open::{start_lanes, start_views};
+use crate::open::{start_lanes, start_stages, start_views};
 use chain_log::entry::LogEntry;
 use fc_numbers::machine::End;
 use fc_numbers::memory::NoMemory;
 use fc_numbers::places::{VcpuNo, ViewNo};
 use function_table::table::Table;
+use gstage::table::GTable;
 use guest_board::board::Board;
 use guest_board::seen::Windows;
 use guest_image::image::Image;
@@ -32,12 +34,14 @@ use view_file::views::Views;
 use view_store::view::View;
 
 /// A board whose vCPUs fetch from views. In contracts it is the view machine: the profile's views, the groups of the
-/// text, the board, the views with their logs, and the lanes.
+/// text, the board, the views with their logs, and the lanes. Each view has its second-stage table, which every access of
+/// a step under the view asks where its place lies; what it answers follows from the board's memory.
 #[derive(Drop)]
 pub struct Core<'a> {
     profile: &'a Views,
     table: &'a Table,
     board: Board,
+    stages: Vec<GTable>,
     views: Vec<View>,
     lanes: Vec<Lane>,
 }
@@ -60,6 +64,7 @@ fn event(
     profile: &Views,
     table: &Table,
     board: &mut Board,
+    stages: &[GTable],
     views: &mut [View],
     lane: &mut Lane,
 ) -> Went
@@ -69,6 +74,7 @@ fn event(
     requires groups { (paged_in views.old lane.old.windows.view).groups ≡ table.now }
     requires placed { IsPlaced table.now lane.old lane.old.phase }
     requires few { length profile.now.apps ≤ APPS_MOST }
+    requires stages { AreStagesFor board.old.state.ram (length profile.now.apps + 1) stages.now }
     ensures after { (lanes : List Lane) →
         (let old : World = record { profile = profile.now; groups = table.now; board = board.old; paged_views = views.old; lanes = lanes } in
         let new : World = record { profile = profile.now; groups = table.now; board = board.new; paged_views = views.new; lanes = slice_set lanes lane.old.vcpu lane.new } in
@@ -78,7 +84,10 @@ fn event(
         result ≡ went_in old lane.old.vcpu lane.old lane.old.phase) }
 {
     match mem::replace(&mut lane.phase, Phase::Running) {
-        Phase::Running => turn(board, profile, lane),
+        Phase::Running => {
+            let view = profile.choose(board.name_of(lane.vcpu));
+            turn(board, profile, &stages[view.0 as usize], lane)
+        }
         Phase::Wants(n) => {
             let view = lane.windows.view.0 as usize;
             fill(&views[view], n, lane);
@@ -114,12 +123,14 @@ impl<'a> Core<'a> {
         ensures { IfOk result (λ core. core ≡ first_world (record { image = image.now; setup = setup.now; views = profile.now })) }
     {
         let board = Board::open(alloc, image, setup)?;
+        let stages = start_stages(alloc, board.ram(), profile)?;
         let views = start_views(alloc, image, profile, table)?;
         let lanes = start_lanes(alloc, profile.choose(setup.start.as_ref()), setup.vcpus)?;
         Ok(Core {
             profile,
             table,
             board,
+            stages,
             views,
             lanes,
         })
@@ -181,6 +192,7 @@ impl<'a> Core<'a> {
             self.profile,
             self.table,
             &mut self.board,
+            &self.stages,
             &mut self.views,
             &mut self.lanes[at],
         )

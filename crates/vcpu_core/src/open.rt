@@ -6,14 +6,18 @@ ghost use Rattle.guest_image.specs.Accepted.{IsImage};
 ghost use Rattle.guest_image.specs.declared.setup.Setup.{Setup};
 ghost use Rattle.view_file.specs.declared.views.TheConstants.{APPS_MOST};
 ghost use Rattle.view_file.specs.Fits.{IsViewsFor};
+ghost use Rattle.fc_numbers.specs.declared.places.TheConstants.{PAGE};
+ghost use Rattle.vcpu_core.specs.Stages.{AreStagesFor};
 ghost use Rattle.vcpu_core.specs.First.{first_paged_views, first_lanes};
 
 use crate::lane::{Lane, Phase};
 use fc_numbers::memory::NoMemory;
 use fc_numbers::places::{VcpuNo, ViewNo};
 use function_table::table::Table;
+use gstage::table::GTable;
 use guest_board::seen::Windows;
 use guest_image::image::Image;
+use guest_ram::GuestRam;
 use std::alloc::Global;
 use view_file::views::Views;
 use view_store::view::View;
@@ -40,6 +44,25 @@ pub(crate) fn start_views(
         views.push(View::build(alloc, image, table, view, base)?)?;
     }
     Ok(views)
+}
+
+/// The second-stage table of each view for the text and the RAM of this memory.
+#[tactic(auto, using(crate::proofs::Staged::spans_of))]
+pub(crate) fn start_stages(
+    alloc: Global,
+    ram: &GuestRam,
+    profile: &Views,
+) -> Result<Vec<GTable>, NoMemory>
+    requires text { ram.now.text.end ≤ ram.now.text.start + 1024 * PAGE }
+    requires few { length profile.now.apps ≤ APPS_MOST }
+    ensures { IfOk result (λ stages. AreStagesFor ram.now (length profile.now.apps + 1) stages.items) }
+{
+    let count = profile.apps.as_slice().len() as u8 + 1;
+    let mut stages = Vec::new(alloc);
+    for v in 0..count {
+        stages.push(GTable::build(alloc, ram.text(), ram.span(), ViewNo(v))?)?;
+    }
+    Ok(stages)
 }
 
 /// Lanes of this view that run and hold nothing.

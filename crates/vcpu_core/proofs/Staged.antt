@@ -1,0 +1,85 @@
+-- The second-stage tables of the views, built one after another and kept by events.
+use Rattle.std.proofs.Common.{◌≡◌, ℕ, zero, suc, ◌+◌, ◌*◌, ◌<◌, ◌≤◌, List, [], ◌∷◌, ◌++◌, length, refl, sym, ap, ◌∙◌, arith, length-append}
+use Rattle.std.specs.Prelude.{slice_index_or}
+use Rattle.fc_numbers.specs.declared.places.Span.{Span}
+use Rattle.fc_numbers.specs.declared.places.TheConstants.{PAGE}
+use Rattle.guest_ram.specs.Ram.{Ram, IsLaid}
+use Rattle.gstage.specs.Map.{AreSpans}
+use Rattle.gstage.specs.Stage.{IsFor}
+use Rattle.gstage.specs.Table.{Table}
+use Rattle.rv_step.specs.Kept.{KeepsText}
+use Rattle.guest_board.specs.declared.seen.Verdict.{Verdict}
+use Rattle.guest_board.specs.declared.seen.Verdict.TheVariants.{Idle, Needs, Zeroes, Goes}
+use Rattle.guest_board.specs.Board.{Seat}
+use Rattle.guest_board.specs.Seen.{after_verdict}
+use Rattle.guest_board.proofs.Stays.{stepped_keeps}
+use Rattle.vcpu_core.specs.declared.lane.Lane.{Lane}
+use Rattle.vcpu_core.specs.declared.lane.Phase.{Phase}
+use Rattle.vcpu_core.specs.declared.lane.Phase.TheVariants.{Running, Wants, Trapped, Looked}
+use Rattle.vcpu_core.specs.Stages.{IsStageFor, AreStagesFor}
+use Rattle.vcpu_core.specs.World.{World, gone, windows_of, verdict_in}
+
+-- a memory that is laid lawfully, with a text of few pages, has spans that a table can be built of
+pub spans_of : (memory : Ram) (text ram : Span) → IsLaid memory → memory.text.end ≤ memory.text.start + 1024 * PAGE → IsFor text ram memory → AreSpans text ram
+spans_of memory text ram laid few is =
+    let start : text.start ≡ memory.text.start = ap (λ (s : Span). s.start) is.same_text in
+    let end : text.end ≡ memory.text.end = ap (λ (s : Span). s.end) is.same_text in
+    record {
+      start = is.start;
+      some = omega (arith, is.end);
+      most = omega (arith, is.end, laid.lawful.most);
+      pages = omega (arith, is.end, laid.lawful.pages);
+      first_page = rw start laid.lawful.first_page;
+      last_page = rw end laid.lawful.last_page;
+      low = rw start laid.lawful.low;
+      order = rw (start, end) laid.lawful.order;
+      few = rw (start, end) few;
+      high = omega (arith, end, is.end, laid.lawful.high);
+    }
+
+-- what holds of each member and of one more holds of each after it is put at the end
+each-push : (P : ℕ → Table → Type 0) (xs : List Table) (x : Table) → ((k : ℕ) (d : Table) → k < length xs → P k (slice_index_or xs k d)) → P (length xs) x
+    → (k : ℕ) (d : Table) → k < length (xs ++ x ∷ []) → P k (slice_index_or (xs ++ x ∷ []) k d)
+each-push P [] x all new zero d h = new
+each-push P [] x all new (suc k) d h = absurd (omega (arith, h))
+each-push P (y ∷ ys) x all new zero d h = all zero d (omega arith)
+each-push P (y ∷ ys) x all new (suc k) d h = each-push (λ n. P (suc n)) ys x (λ n e w. all (suc n) e (omega (arith, w))) new k d (omega (arith, h))
+
+pub no_stages : (memory : Ram) → AreStagesFor memory 0 []
+no_stages memory = record { count = refl; each = λ v d h. absurd (omega (arith, h)) }
+
+pub one_more : (memory : Ram) (n : ℕ) (stages : List Table) (t : Table) → AreStagesFor memory n stages → IsStageFor memory n t → AreStagesFor memory (n + 1) (stages ++ t ∷ [])
+one_more memory n stages t all new = record {
+  count = simp length-append (omega (arith, all.count));
+  each = each-push (IsStageFor memory) stages t all.each (rw all.count new);
+}
+
+pub for_kept : (text ram : Span) (old new : Ram) → KeepsText old new → IsFor text ram old → IsFor text ram new
+for_kept text ram old new kept is = record { same_text = is.same_text ∙ sym kept.text; start = is.start; end = rw kept.size is.end }
+
+pub stages_kept : (old new : Ram) (n : ℕ) (stages : List Table) → KeepsText old new → AreStagesFor old n stages → AreStagesFor new n stages
+stages_kept old new n stages kept all = record {
+  count = all.count;
+  each = λ v d h. record {
+    of_view = (all.each v d h).of_view;
+    placing = for_kept (slice_index_or stages v d).text (slice_index_or stages v d).ram old new kept (all.each v d h).placing;
+  };
+}
+
+keeps_same : (ram : Ram) → KeepsText ram ram
+keeps_same ram = record { text = refl; size = refl; frames = refl; bytes = λ at h. refl; stamp_least = λ frame. omega arith; stamp_most = λ frame. omega arith }
+
+verdict_keeps : (b : Seat) (i : ℕ) (v : Verdict) → IsLaid b.state.ram → KeepsText b.state.ram (after_verdict b i v).state.ram
+unfolding after_verdict
+verdict_keeps b i Idle laid = keeps_same b.state.ram
+verdict_keeps b i (Needs n) laid = keeps_same b.state.ram
+verdict_keeps b i (Zeroes p) laid = keeps_same b.state.ram
+verdict_keeps b i (Goes ready) laid = stepped_keeps b.steps b.state i ready laid
+
+-- an event keeps kernel text and the size of memory
+pub gone_keeps : (w : World) (i : ℕ) (l : Lane) (phase : Phase) → IsLaid w.board.state.ram → KeepsText w.board.state.ram (gone w i l phase).board.state.ram
+unfolding gone
+gone_keeps w i l Running laid = verdict_keeps w.board i (verdict_in w i (windows_of w i l)) laid
+gone_keeps w i l (Wants n) laid = keeps_same w.board.state.ram
+gone_keeps w i l (Trapped t) laid = keeps_same w.board.state.ram
+gone_keeps w i l (Looked k) laid = keeps_same w.board.state.ram

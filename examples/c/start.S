@@ -1,0 +1,15 @@
+# The entry of the C kernels: a stack, and s0 = 0, at which the call chain ends.
+        .text
+        .globl  _start
+        .type   _start, @function
+_start:
+        la      sp, stack_top
+        li      s0, 0
+        call    kernel_main
+1:      j       1b
+        .size   _start, . - _start
+
+        .bss
+        .balign 16
+        .space  4096
+stack_top:
