@@ -1,8 +1,8 @@
 -- When words are a listed form.
 use Rattle.std.proofs.Common.{◌≡◌, ℕ, zero, suc, ◌≤◌, ◌<◌, List, [], ◌∷◌, length, arith, refl, ◌∙◌, sym, ap, map, decimal}
-use Rattle.std.specs.Prelude.{slice_index_or, get_or, string_bytes}
+use Rattle.std.specs.Prelude.{get_or}
 use Rattle.guest_image.specs.declared.limits.TheConstants.{STEPS_MOST}
-use Rattle.facechange_cli.specs.Words.{Wanted, IsTry, IsNoForm}
+use Rattle.facechange_cli.specs.Words.{IsNoForm}
 
 pub bad-steps : (words : List (List ℕ)) (word : List ℕ) → get_or words 4 [] ≡ word
     → ((steps : ℕ) → word ≡ decimal steps → 1 ≤ steps → steps ≤ STEPS_MOST → ⊥) → IsNoForm words

@@ -4,3 +4,4 @@ pub mod Printed
 pub mod Lone
 pub mod Setups
 pub mod Refusals
+pub mod Exact

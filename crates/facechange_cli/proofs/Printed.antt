@@ -1,14 +1,13 @@
 -- What a justified entry names lies in text.
-use Rattle.std.proofs.Common.{◌≡◌, ℕ, zero, suc, ◌+◌, ◌-◌, ◌%◌, ◌<◌, ◌≤◌, true, false, Bool, Option, Some, None, List, [], ◌∷◌, ◌++◌, length, arith, refl, ◌∙◌, sym, ap, subst}
-use Rattle.std.specs.Prelude.{All, ◌==◌, nat_le, nat_lt, ◌&&◌, if◌then◌else◌, slice_index_or, take, option_and_then}
+use Rattle.std.proofs.Common.{◌≡◌, ℕ, zero, suc, ◌+◌, ◌-◌, ◌%◌, true, false, Option, Some, None, List, [], ◌∷◌, length, arith, refl, ◌∙◌, sym, ap, subst}
+use Rattle.std.specs.Prelude.{All, ◌==◌, nat_lt, if◌then◌else◌, slice_index_or, take, option_and_then}
 use Rattle.std.specs.Option.{option_to_list}
 use Rattle.std.proofs.lemmas.List.Elements.{All-append}
-use Rattle.std.proofs.lemmas.Bool.Decides.{nat_tests}
 use Rattle.fc_numbers.specs.declared.machine.Mode.{Mode}
 use Rattle.fc_numbers.specs.declared.places.Span.{Span}
 use Rattle.fc_numbers.specs.declared.machine.Access.TheVariants.{Fetch}
 use Rattle.fc_numbers.specs.Numbers.{get_reg}
-use Rattle.function_table.specs.Groups.{Groups, groups_count, group_at, in_text}
+use Rattle.function_table.specs.Groups.{in_text}
 use Rattle.function_table.proofs.GroupLemmas.{group-below}
 use Rattle.guest_ram.specs.Ram.{Ram, IsLaid, is_text}
 use Rattle.rv_csr.specs.Csrs.{Csrs}
@@ -16,9 +15,9 @@ use Rattle.chain_log.specs.declared.entry.LogEntry.{LogEntry}
 use Rattle.chain_log.specs.declared.entry.TheConstants.{CHAIN_MOST}
 use Rattle.chain_log.specs.declared.chain.Frame.{Frame}
 use Rattle.chain_log.specs.declared.chain.TheConstants.{RA, FP}
-use Rattle.chain_log.specs.Chain.{chain_of, with_frames, frames_from, places_of, frame_at, by_words, framed, word_at, below, code_at, place_of}
-use Rattle.guest_board.specs.Board.{State, step_of, run_from, next_of, vcpu_of}
-use Rattle.guest_board.specs.First.{first_state, first_seat}
+use Rattle.chain_log.specs.Chain.{chain_of, frames_from, places_of, frame_at, by_words, framed, word_at, below, code_at, place_of}
+use Rattle.guest_board.specs.Board.{State, step_of, run_from, vcpu_of}
+use Rattle.guest_board.specs.First.{first_state}
 use Rattle.guest_board.proofs.Steps.{next-text}
 use Rattle.run_evidence.specs.Config.{Config, IsConfig, groups_in, full, full_at}
 use Rattle.run_evidence.specs.Evidence.{IsJustified, AllJustified, chain_in}

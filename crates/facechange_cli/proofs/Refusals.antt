@@ -1,20 +1,15 @@
 -- What the parts of the top call promise, put together.
 use Rattle.std.specs.Prelude.{Result, IfOk}
-use Rattle.std.proofs.Common.{◌≡◌, ℕ, List, Option, Some, refl, ◌∙◌, sym, ap, subst, Ok, Err}
-use Rattle.fc_numbers.specs.declared.machine.End.{End}
-use Rattle.fc_numbers.specs.declared.machine.End.TheVariants as end
-use Rattle.fc_outside.specs.Outside.{Files, Faults, IsFaultOf, IsFault, SameBut, holding, with_more, file_at}
+use Rattle.std.proofs.Common.{◌≡◌, Some, Ok, Err}
+use Rattle.fc_outside.specs.Outside.{Faults}
 use Rattle.guest_image.specs.declared.image.Image.{Image}
 use Rattle.facechange_cli.specs.Words.{Wanted}
 use Rattle.facechange_cli.specs.Files.{GivesImage, ImageSaid, ImageCounts, ViewsSaid, ViewsCounts}
-use Rattle.facechange_cli.specs.Answers.{answer_of}
-use Rattle.facechange_cli.specs.Command.{Outside, Told, IsRun, IsRefusal, IsSaid, HasRun, IsAnswer, IsUntouched}
-use Rattle.facechange_cli.specs.Inner.{RunSaid, RunCounts, IsDelivered, IsLogLost, IsConsoleLost, Finishes}
-use Rattle.facechange_cli.specs.declared.alone.Ran.{Ran}
+use Rattle.facechange_cli.specs.Command.{Outside, Told, IsRefusal, IsAnswer, IsUntouched}
+use Rattle.facechange_cli.specs.Inner.{RunCounts}
 use Rattle.facechange_cli.specs.declared.answer.Answer.{Answer}
 use Rattle.facechange_cli.specs.declared.answer.Answer.TheVariants.{Finished, NoForm, Image as NoImage, Views as NoViews, Unread, Unwritten, Stopped, NoMemory}
 use Rattle.facechange_cli.specs.declared.answer.Input.TheVariants as input
-use Rattle.facechange_cli.specs.declared.answer.Output.TheVariants as output
 
 pub ok-map : {T E : Type 0} (r : Result T E) (P Q : T → Type 0) → ((t : T) → P t → Q t) → IfOk r P → IfOk r Q
 ok-map (Ok t) P Q f k = f t k

@@ -1,11 +1,14 @@
 -- What a file gives: an image, views for it, or a refusal.
 -- The rule: a file over the limit is refused before it is looked at; else its bytes have an image, or a first fault.
-use Rattle.std.specs.Prelude.{◌≡◌, ℕ, ◌<◌, ◌≤◌, Option, Some, List, length, Result, Ok, Err}
+use Rattle.std.specs.Prelude.{◌≡◌, ◌≢◌, ℕ, ◌<◌, ◌≤◌, Option, Some, List, length, Result, Ok, Err}
 use Rattle.fc_outside.specs.Outside.{Faults, IsFaultOf}
 use Rattle.guest_image.specs.declared.image.Image.{Image}
 use Rattle.guest_image.specs.ImageFile.{image_of}
 use Rattle.view_file.specs.declared.views.Views.{Views}
 use Rattle.view_file.specs.Fits.{Reads}
+use Rattle.view_file.specs.declared.fault.ViewFault.TheVariants as fault_of_views
+use Rattle.guest_image.specs.declared.image.ImageFault.TheVariants.{Elf}
+use Rattle.elf_read.specs.declared.parts.ElfFault.TheVariants as elf
 use Rattle.facechange_cli.specs.declared.inputs.TheConstants.{FILE_MOST}
 use Rattle.facechange_cli.specs.declared.answer.Answer.{Answer}
 use Rattle.facechange_cli.specs.declared.answer.Answer.TheVariants as answer
@@ -28,19 +31,19 @@ IsTooLong held = (bytes : List ℕ) × (held ≡ Some bytes) × (FILE_MOST < len
 abbrev pub GivesImage : Option (List ℕ) → Image → Type 0
 GivesImage held image = (bytes : List ℕ) × IsHeld held bytes × (image_of bytes ≡ Ok image)
 
--- the file gives no image, for this reason
+-- the file gives no image, for this reason; want of memory is none
 abbrev pub RefusesImage : Option (List ℕ) → ImageNo → Type 0
 RefusesImage held image.TooLong = IsTooLong held
-RefusesImage held (image.Fault fault) = (bytes : List ℕ) × IsHeld held bytes × (image_of bytes ≡ Err fault)
+RefusesImage held (image.Fault fault) = (bytes : List ℕ) × IsHeld held bytes × (image_of bytes ≡ Err fault) × (fault ≢ Elf elf.NoMemory)
 
 -- the file gives these views for the image
 abbrev pub GivesViews : Option (List ℕ) → Image → Views → Type 0
 GivesViews held i v = (bytes : List ℕ) × IsHeld held bytes × Reads bytes i (Ok v)
 
--- the file gives no views for the image, for this reason
+-- the file gives no views for the image, for this reason; want of memory is none
 abbrev pub RefusesViews : Option (List ℕ) → Image → ViewsNo → Type 0
 RefusesViews held i views.TooLong = IsTooLong held
-RefusesViews held i (views.Fault fault) = (bytes : List ℕ) × IsHeld held bytes × Reads bytes i (Err fault)
+RefusesViews held i (views.Fault fault) = (bytes : List ℕ) × IsHeld held bytes × Reads bytes i (Err fault) × (fault ≢ fault_of_views.NoMemory)
 
 -- what reading an image answers of what the name holds
 abbrev pub ImageSaid : Option (List ℕ) → Result Image Answer → Type 0

@@ -3,4 +3,5 @@ pub mod Files
 pub mod Alone
 pub mod Answers
 pub mod Command
+pub mod Exact
 pub mod Inner

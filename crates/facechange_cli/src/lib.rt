@@ -5,6 +5,7 @@
 //! - [`alone`]: the run of one vCPU under the view of its app, to its end.
 //! - [`answer`]: what a command comes to, its status, and its line on standard error.
 //! - [`command`]: the top call.
+//! - [`laws`]: that each cause has its answer.
 //!
 //! [`command::face_change_still`] is the program: over any store and any streams it answers what `specs/Command.antt`
 //! says. Where the answer is 0 or 9 the guest's console is that of the full kernel, run by the words' setup, and the log
@@ -15,11 +16,12 @@
 pub mod alone;
 pub mod answer;
 pub mod command;
-#[cfg(test)]
-mod hello;
 pub mod inputs;
+pub mod laws;
 #[cfg(test)]
 mod programs;
+#[cfg(test)]
+mod tables;
 #[cfg(test)]
 mod tests;
 pub mod words;

@@ -6,14 +6,11 @@
 //! say. The programs of control registers write all ones, read back, compare with the bits that the register keeps,
 //! and print `1` where they agree. All were put together by hand with an assembler.
 
-use crate::tests::{TRY, call, store_of, views_of};
-use std::test::Fail;
-
 /// A root table at 0x80002000 that maps the gibibyte from 0x80000000 to itself, for supervisor mode.
 const MAPPED: &str = ",\"data\":[[2147491856,\"cf00002000000000\"]]";
 
 /// The text, the digest of the image, further members of the image, and the console.
-const PROGRAMS: [(&str, &str, &str, &[u8]); 27] = [
+static PROGRAMS: [(&str, &str, &str, &[u8]); 27] = [
     // Cause 1: a fetch outside RAM
     (
         "970200009382420173905210b702004067800200f3222014138512049308100073000000f322301437030040b3c2620013b51200130505039308100073000000f322101437030040b3c2620013b512001305050393081000730000009308800073000000",
@@ -205,24 +202,7 @@ const PROGRAMS: [(&str, &str, &str, &[u8]); 27] = [
     ),
 ];
 
-#[test]
-fn traps_and_control_registers_are_the_manuals(rt: HostRuntime) -> Result<(), Fail> {
-    let alloc = rt.alloc();
-    for (text, digest, more, console) in &PROGRAMS {
-        let image = format!(in alloc;
-            "{{\"base\":2147483648,\"entry\":2147483648,\"text\":\"{text}\"{more}}}"
-        )?;
-        let views = views_of(alloc, *digest, "")?;
-        let store = store_of(
-            alloc,
-            Some(image.as_bytes()),
-            Some(views.as_bytes()),
-            Vec::new(alloc),
-            Vec::new(alloc),
-        )?;
-        let came = call(alloc, &TRY, store, Vec::new(alloc), Vec::new(alloc))?;
-        assert!(rt; came.status == 0);
-        assert!(rt; came.out.bytes() == *console);
-    }
-    Ok(())
+/// The text, the digest of the image, further members of the image, and the console.
+pub(crate) fn programs() -> &'static [(&'static str, &'static str, &'static str, &'static [u8])] {
+    &PROGRAMS
 }

@@ -1,16 +1,16 @@
 -- A step that ends the run by a stop or a shutdown has changed nothing else.
-use Rattle.std.proofs.Common.{◌≡◌, ◌≢◌, ℕ, ◌+◌, true, false, Bool, refl, sym, ap, subst, ◌∙◌, Option, Some, None, List}
-use Rattle.std.specs.Prelude.{if◌then◌else◌, slice_set, slice_index, slice_index_or}
+use Rattle.std.proofs.Common.{◌≡◌, ◌≢◌, ℕ, true, false, refl, sym, ◌∙◌, Option, Some, None, List}
+use Rattle.std.specs.Prelude.{if◌then◌else◌}
 use Rattle.std.proofs.lemmas.List.{set-get_or}
 use Rattle.fc_numbers.specs.declared.machine.End.{End}
-use Rattle.fc_numbers.specs.declared.machine.End.TheVariants.{Spent, Stopped}
+use Rattle.fc_numbers.specs.declared.machine.End.TheVariants.{Spent}
 use Rattle.rv_decode.specs.declared.Inst.{Inst}
 use Rattle.rv_decode.specs.Rows.{decode_of, decode16_of}
 use Rattle.rv_step.specs.declared.vcpu.Effect.{Effect}
 use Rattle.rv_step.specs.declared.vcpu.Effect.TheVariants as effect
 use Rattle.rv_step.specs.Site.{Site, Outcome}
 use Rattle.rv_step.specs.Executed.{did}
-use Rattle.rv_step.specs.Kept.{IsUntouched, IsUntouchedUnless}
+use Rattle.rv_step.specs.Kept.{IsUntouchedUnless}
 use Rattle.rv_step.proofs.Untouched.{did_changes_on_next}
 use Rattle.guest_board.specs.declared.fetch.Fetched.{Fetched}
 use Rattle.guest_board.specs.declared.fetch.Fetched.TheVariants.{Short, Long, Faults, Stops}
@@ -18,8 +18,8 @@ use Rattle.guest_board.specs.declared.step.Nesting.{Nesting}
 use Rattle.guest_board.specs.declared.step.Nesting.TheVariants.{Stays}
 use Rattle.guest_board.specs.declared.step.Ready.{Ready}
 use Rattle.guest_board.specs.declared.step.Ready.TheVariants.{Interrupt, Fetches}
-use Rattle.guest_board.specs.Step.{Made, by_inst, by_fetch, made_by, settled, vcpu_after, nesting_of, word}
-use Rattle.guest_board.specs.Board.{State, ready_at, site_of, vcpu_of, step_of, stepped_by, after_made, end_after, is_spent, counted, nobody, deeper}
+use Rattle.guest_board.specs.Step.{Made, by_inst, by_fetch, made_by, settled, nesting_of, word}
+use Rattle.guest_board.specs.Board.{State, ready_at, site_of, step_of, after_made, end_after, is_spent, counted, nobody}
 use Rattle.guest_board.specs.Laws.{EndsOnly}
 
 -- what a step made that has ended the run

@@ -1,10 +1,10 @@
 -- A step of one vCPU leaves the others, but for their reservations.
-use Rattle.std.proofs.Common.{◌≡◌, ◌≢◌, ℕ, zero, suc, true, false, refl, sym, ap, subst, ◌∙◌, Option, Some, None, List, [], ◌∷◌, length}
+use Rattle.std.proofs.Common.{◌≢◌, ℕ, zero, suc, true, false, refl, subst, ◌∙◌, Option, Some, None, List, [], ◌∷◌, length}
 use Rattle.std.specs.Prelude.{◌==◌, if◌then◌else◌, slice_set, slice_index_or}
 use Rattle.std.proofs.lemmas.List.{get_or-set_other}
 use Rattle.rv_step.specs.declared.vcpu.Vcpu.{Vcpu}
 use Rattle.guest_board.specs.Step.{Made, made_by}
-use Rattle.guest_board.specs.Board.{State, ready_at, site_of, vcpu_of, step_of, stepped_by, after_made, broken, broken_below, broken_by, nobody}
+use Rattle.guest_board.specs.Board.{State, ready_at, site_of, vcpu_of, step_of, after_made, broken, broken_below, broken_by, nobody}
 use Rattle.guest_board.specs.Laws.{IsSameVcpu}
 
 same : (v : Vcpu) → IsSameVcpu v v

@@ -1,6 +1,5 @@
 -- A data part of an image by its number, and the memory after the parts from a number on.
-use Rattle.std.proofs.Common.{◌≡◌, ℕ, zero, suc, ◌+◌, ◌<◌, ◌≤◌, List, [], ◌∷◌, length, drop, get_or, refl, sym, ap, ◌∙◌, arith, add-one}
-use Rattle.fc_numbers.specs.declared.places.TheConstants.{RAM_START}
+use Rattle.std.proofs.Common.{◌≡◌, ℕ, zero, suc, ◌+◌, ◌<◌, ◌≤◌, List, [], ◌∷◌, length, drop, get_or, refl, arith}
 use Rattle.guest_image.specs.Accepted.{IsPartOf, AllParts, PartsEndBy}
 use Rattle.guest_ram.specs.Ram.{Ram, placed}
 use Rattle.guest_board.specs.First.{with_parts}

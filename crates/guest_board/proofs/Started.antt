@@ -1,10 +1,8 @@
 -- What a board keeps before its first step.
-use Rattle.std.proofs.Common.{◌≡◌, ℕ, zero, suc, ◌+◌, ◌*◌, ◌/◌, ◌≤◌, List, [], ◌∷◌, length, replicate, refl, sym, ap, ◌∙◌, arith, length-append, get_or}
+use Rattle.std.proofs.Common.{◌≡◌, ℕ, zero, suc, ◌*◌, ◌/◌, ◌≤◌, List, [], ◌∷◌, length, replicate, refl, ◌∙◌, arith, length-append}
 use Rattle.std.specs.Prelude.{slice_index}
 use Rattle.fc_numbers.specs.declared.places.TheConstants.{PAGE}
 use Rattle.guest_image.specs.declared.image.Image.{Image}
-use Rattle.guest_image.specs.declared.setup.Setup.{Setup}
-use Rattle.guest_image.specs.Accepted.{IsSetupFor}
 use Rattle.guest_ram.specs.Ram.{Ram, placed, zero_ram}
 use Rattle.guest_ram.proofs.Laws.{placed-stamps}
 use Rattle.guest_board.specs.Board.{left_total}

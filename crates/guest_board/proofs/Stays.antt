@@ -1,5 +1,5 @@
 -- A step keeps kernel text, and each page counts one more store at most.
-use Rattle.std.proofs.Common.{◌≡◌, ℕ, ◌+◌, ◌≤◌, refl, sym, ap, subst, ◌∙◌, arith, Option, Some, None, length}
+use Rattle.std.proofs.Common.{ℕ, refl, sym, subst, arith, Option, Some, None, length}
 use Rattle.fc_numbers.specs.declared.places.Span.{Span}
 use Rattle.guest_ram.specs.Ram.{Ram, IsLaid, IsLawful}
 use Rattle.rv_decode.specs.declared.Inst.{Inst}

@@ -1,5 +1,5 @@
 -- What a step leaves as it is, and what it counts.
-use Rattle.std.proofs.Common.{◌≡◌, ◌≢◌, ℕ, zero, suc, ◌+◌, ◌-◌, ◌<◌, ◌≤◌, true, false, Bool, List, [], ◌∷◌, length, refl, sym, ap, subst, arith, ◌∙◌, Option, Some, None, length-set}
+use Rattle.std.proofs.Common.{◌≡◌, ◌≢◌, ℕ, zero, suc, ◌+◌, ◌<◌, ◌≤◌, true, false, List, [], ◌∷◌, length, refl, arith, Option, Some, None, length-set}
 use Rattle.std.specs.Prelude.{◌==◌, slice_set, slice_index, slice_index_or, if◌then◌else◌}
 use Rattle.std.proofs.lemmas.Bool.Decides.{nat_tests}
 use Rattle.guest_ram.specs.Ram.{Ram, is_text}
@@ -7,9 +7,8 @@ use Rattle.rv_step.specs.declared.vcpu.Vcpu.{Vcpu}
 use Rattle.rv_step.specs.Site.{Site}
 use Rattle.guest_board.specs.declared.step.Ready.{Ready}
 use Rattle.guest_board.specs.declared.step.Ready.TheVariants.{Interrupt, Fetches}
-use Rattle.guest_board.specs.Step.{Made, place_of, ready_of, ready_by, due_at}
-use Rattle.guest_board.specs.Fetch.{fetched, text_place}
-use Rattle.guest_board.specs.Board.{State, may, next_of, ready_at, site_of, vcpu_of, step_of, stepped_by, after_made, broken_below, broken_by, broken, counted, nobody, deeper}
+use Rattle.guest_board.specs.Step.{place_of, ready_of, ready_by, due_at}
+use Rattle.guest_board.specs.Board.{State, may, next_of, ready_at, site_of, step_of, stepped_by, after_made, broken_below, broken_by, broken, counted, nobody, deeper}
 use Rattle.guest_board.specs.declared.step.Nesting.{Nesting}
 use Rattle.guest_board.specs.declared.step.Nesting.TheVariants.{Stays, Interrupts, Traps, Returns}
 use Rattle.guest_board.specs.declared.seen.Windows.{Windows}

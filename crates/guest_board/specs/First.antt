@@ -1,6 +1,6 @@
 -- The state in which a run of an image by a setup begins.
 -- The rule: VS mode, bare, pc at the entry, all registers zero but a0, the vCPU's number.
-use Rattle.std.specs.Prelude.{ℕ, ◌+◌, ◌/◌, Option, Some, None, List, [], ◌∷◌, ◌++◌, length, replicate}
+use Rattle.std.specs.Prelude.{ℕ, ◌+◌, None, List, [], ◌∷◌, ◌++◌, length, replicate}
 use Rattle.std.proofs.Common.{zero, suc}
 use Rattle.fc_numbers.specs.Numbers.{zero_regs, set_reg}
 use Rattle.fc_numbers.specs.declared.places.Span.{Span}

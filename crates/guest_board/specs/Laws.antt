@@ -1,11 +1,10 @@
 -- What a step of the machine leaves as it is.
 -- The rules: a step that ends the run by a stop or a shutdown changes nothing but the end, the schedule, the count of
 -- its vCPU and the clock; a step of one vCPU leaves the others, but that it may break their reservations.
-use Rattle.std.specs.Prelude.{◌≡◌, ◌≢◌, ℕ, ◌+◌, Option, Some, List}
-use Rattle.fc_numbers.specs.declared.machine.Mode.{Mode}
+use Rattle.std.specs.Prelude.{◌≡◌, ◌≢◌, ℕ, ◌+◌, Some}
 use Rattle.fc_numbers.specs.declared.machine.End.{End}
 use Rattle.fc_numbers.specs.declared.machine.End.TheVariants.{Spent}
-use Rattle.guest_ram.specs.Ram.{Ram, IsLaid}
+use Rattle.guest_ram.specs.Ram.{IsLaid}
 use Rattle.rv_step.specs.declared.vcpu.Vcpu.{Vcpu}
 use Rattle.rv_step.specs.Kept.{KeepsText}
 use Rattle.guest_board.specs.Board.{State, step_of, vcpu_of, counted}

@@ -1,6 +1,6 @@
 -- A step by what a lane holds of a view: the step, a need of halfwords, or a trap on a zero halfword.
 -- The rule: a fetch in text reads its halfwords from the pair that begins at its halfword number.
-use Rattle.std.specs.Prelude.{ℕ, ◌-◌, ◌/◌, ◌==◌, ◌&&◌, Bool, true, false, not, nat_eq, nat_lt, nat_le, if◌then◌else◌, Option, Some, None, slice_index}
+use Rattle.std.specs.Prelude.{ℕ, ◌-◌, ◌/◌, ◌==◌, ◌&&◌, Bool, false, not, nat_eq, nat_lt, nat_le, if◌then◌else◌, Option, Some, None, slice_index}
 use Rattle.fc_numbers.specs.declared.pair.Pair.{Pair}
 use Rattle.fc_numbers.specs.declared.places.Span.{Span}
 use Rattle.chain_log.specs.declared.entry.Trapped.{Trapped}

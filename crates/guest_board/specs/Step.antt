@@ -1,6 +1,6 @@
 -- One step of a vCPU: the interrupt that is due, else the fetch, the trap or the effect of the instruction.
 -- The rule: privileged manual, "Supervisor Interrupt Registers (sip and sie)" and "Trap entry", in this profile.
-use Rattle.std.specs.Prelude.{ℕ, ◌+◌, ◌*◌, ◌^◌, ◌==◌, Bool, true, false, if◌then◌else◌, Option, Some, None}
+use Rattle.std.specs.Prelude.{ℕ, ◌+◌, ◌*◌, ◌^◌, ◌==◌, if◌then◌else◌, Option, Some, None}
 use Rattle.fc_numbers.specs.declared.machine.End.{End}
 use Rattle.fc_numbers.specs.declared.machine.End.TheVariants.{Stopped}
 use Rattle.fc_numbers.specs.declared.machine.Mode.TheVariants.{Vs}

@@ -1,14 +1,14 @@
 -- What is evidence stays evidence when the schedule and the logs grow.
-use Rattle.std.proofs.Common.{◌≡◌, ℕ, ◌+◌, ◌<◌, ◌≤◌, ◌≢◌, true, false, Bool, List, [], ◌∷◌, ◌++◌, length, arith, refl, ◌∙◌, sym, ap, subst, Option, Some, length-append}
-use Rattle.std.specs.Prelude.{◌==◌, ◌||◌, ◌&&◌, nat_le, slice_index, slice_index_or}
+use Rattle.std.proofs.Common.{◌≡◌, ℕ, ◌+◌, ◌<◌, ◌≤◌, true, false, Bool, List, [], ◌∷◌, ◌++◌, length, arith, refl, ◌∙◌, sym, ap, subst, Some, length-append}
+use Rattle.std.specs.Prelude.{◌==◌, ◌||◌, slice_index}
 use Rattle.std.specs.List.{list_any}
 use Rattle.std.proofs.lemmas.Grind.{common_steps}
 use Rattle.std.proofs.lemmas.Bool.Decides.{nat_tests}
 use Rattle.chain_log.specs.declared.entry.LogEntry.{LogEntry}
 use Rattle.function_table.specs.Groups.{group_at}
-use Rattle.guest_board.specs.Board.{State, may, next_of}
-use Rattle.run_evidence.specs.Config.{Config, groups_in, is_base, full, full_at, view_in, fetched_at, view_at}
-use Rattle.run_evidence.specs.Evidence.{IsJustified, AllJustified, IsAllowed, IsOnce, AllOfView, is_logged, is_open, log_in, chain_in}
+use Rattle.guest_board.specs.Board.{next_of}
+use Rattle.run_evidence.specs.Config.{Config, groups_in, is_base, full, full_at, view_in, view_at}
+use Rattle.run_evidence.specs.Evidence.{IsJustified, AllJustified, IsAllowed, IsOnce, AllOfView, is_logged, is_open, log_in}
 use Rattle.run_evidence.proofs.Runs.{full_at-more, full_at-now, member-more, member-now}
 
 -- an entry stays justified

@@ -1,8 +1,7 @@
 -- The laws over any list of events.
-use Rattle.std.proofs.Common.{◌≡◌, ℕ, zero, suc, List, [], ◌∷◌, ◌++◌, refl, sym, ap, subst, ◌∙◌, replicate}
-use Rattle.guest_ram.specs.Ram.{Ram, IsLaid}
+use Rattle.std.proofs.Common.{◌≡◌, ℕ, List, [], ◌∷◌, ◌++◌, refl, subst, replicate}
 use Rattle.rv_step.specs.Kept.{KeepsText}
-use Rattle.guest_board.specs.Board.{State, step_of}
+use Rattle.guest_board.specs.Board.{step_of}
 use Rattle.guest_board.proofs.Stays.{step_keeps, laid_kept}
 use Rattle.run_evidence.specs.Config.{Config, IsConfig}
 use Rattle.vcpu_core.specs.First.{first_world}

@@ -1,48 +1,42 @@
 -- What every event keeps: the board is the full kernel's run, the logs are evidence, the lanes are truthful.
-use Rattle.std.proofs.Common.{◌≡◌, ◌≢◌, ℕ, zero, suc, ◌+◌, ◌-◌, ◌*◌, ◌%◌, ◌<◌, ◌≤◌, true, false, Bool, List, [], ◌∷◌, ◌++◌, length, take, refl, sym, ap, subst, ◌∙◌, arith, Option, Some, None, ◌⊎◌, inl, inr, length-append, append_assoc, append-nil, length-set}
-use Rattle.std.specs.Prelude.{◌==◌, ◌||◌, slice_index, slice_index_or, slice_set, map, if◌then◌else◌}
-use Rattle.std.proofs.lemmas.Grind.{common_steps}
+use Rattle.std.proofs.Common.{◌≡◌, ℕ, zero, suc, ◌+◌, ◌-◌, ◌*◌, ◌%◌, ◌<◌, ◌≤◌, true, false, Bool, List, [], ◌∷◌, ◌++◌, length, refl, sym, ap, subst, ◌∙◌, arith, Some, None, ◌⊎◌, inl, inr, length-append, append_assoc, append-nil}
+use Rattle.std.specs.Prelude.{◌==◌, ◌||◌, slice_index, slice_index_or, slice_set, if◌then◌else◌}
 use Rattle.std.proofs.lemmas.Bool.Decides.{nat_tests}
-use Rattle.fc_numbers.specs.declared.pair.Pair.{Pair}
 use Rattle.fc_numbers.specs.declared.places.Span.{Span}
-use Rattle.fc_numbers.specs.declared.places.TheConstants.{RAM_START, RAM_MOST}
-use Rattle.guest_image.specs.Accepted.{IsImage}
-use Rattle.function_table.specs.Groups.{Groups, group_at, group_in, groups_count, half_of, range_of, IsGroups, groups_of}
-use Rattle.function_table.proofs.GroupLemmas.{group-below, joined, groups-good}
+use Rattle.fc_numbers.specs.declared.places.TheConstants.{RAM_START}
+use Rattle.function_table.specs.Groups.{Groups, group_at, group_in, groups_count, half_of, range_of, IsGroups}
+use Rattle.function_table.proofs.GroupLemmas.{group-below, joined}
 use Rattle.chain_log.specs.declared.entry.LogEntry.{LogEntry}
 use Rattle.guest_ram.specs.Ram.{Ram, is_text}
 use Rattle.view_file.specs.Named.{view_named}
 use Rattle.view_file.specs.Base.{base_of}
 use Rattle.view_store.specs.Paged.{PagedView, is_present, logged, patched}
 use Rattle.guest_board.specs.declared.step.Ready.{Ready}
-use Rattle.guest_board.specs.declared.step.Ready.TheVariants.{Interrupt, Fetches}
-use Rattle.guest_board.specs.declared.fetch.Fetched.{Fetched}
+use Rattle.guest_board.specs.declared.step.Ready.TheVariants.{Fetches}
 use Rattle.guest_board.specs.declared.seen.Windows.{Windows}
 use Rattle.guest_board.specs.declared.seen.Verdict.{Verdict}
 use Rattle.guest_board.specs.declared.seen.Verdict.TheVariants.{Idle, Needs, Zeroes, Goes}
-use Rattle.guest_board.specs.Fetch.{text_place, with_halves}
+use Rattle.guest_board.specs.Fetch.{with_halves}
 use Rattle.guest_board.specs.Step.{place_of}
-use Rattle.guest_board.specs.Board.{State, Seat, may, name_of, next_of, ready_at, step_of, stepped_by, moved, vcpu_of}
+use Rattle.guest_board.specs.Board.{State, Seat, may, name_of, next_of, ready_at, step_of, stepped_by, moved}
 use Rattle.guest_board.specs.Seen.{after_verdict, half_no, is_cleared, first_of, second_of, by_ready, verdict_of}
 use Rattle.guest_board.specs.First.{first_state}
 use Rattle.guest_board.proofs.Places.{HalvesAre}
-use Rattle.guest_board.proofs.Steps.{next-text, next-is, ready-is, ReadyIs, step-is, stepped-vcpus, stepped-names, stepped-clock, may-vcpu}
+use Rattle.guest_board.proofs.Steps.{next-is, ready-is, ReadyIs, step-is, stepped-vcpus, stepped-names, stepped-clock, may-vcpu}
 use Rattle.run_evidence.specs.Config.{Config, IsConfig, groups_in, is_base, full, full_at, view_in, IsLawful}
-use Rattle.run_evidence.specs.Evidence.{IsJustified, AllJustified, AllOfView, IsAllowed, IsOnce, is_logged, is_open, log_in, chain_in}
+use Rattle.run_evidence.specs.Evidence.{IsJustified, IsAllowed, is_logged, is_open, log_in, chain_in}
 use Rattle.run_evidence.proofs.Runs.{run_from-more, full_at-more, full_at-now, lawful-more}
-use Rattle.run_evidence.proofs.Stable.{justified-more, all_justified-more, all_justified-push, of_view-push, is_logged-now, is_logged-push, once-push, allowed-weaken, allowed-more}
+use Rattle.run_evidence.proofs.Stable.{all_justified-more, all_justified-push, of_view-push, is_logged-now, is_logged-push, once-push, allowed-weaken, allowed-more}
 use Rattle.vcpu_core.specs.declared.lane.Lane.{Lane}
 use Rattle.vcpu_core.specs.declared.lane.Phase.{Phase}
 use Rattle.vcpu_core.specs.declared.lane.Phase.TheVariants.{Running, Wants, Trapped, Looked}
-use Rattle.vcpu_core.specs.declared.lane.Went.{Went}
-use Rattle.vcpu_core.specs.declared.lane.Went.TheVariants.{Over, Stepped, Erased}
-use Rattle.vcpu_core.specs.Lanes.{seated, blank_windows, after_turn, in_phase, emptied, after_fill, after_look, after_mend, went_by}
-use Rattle.recovery.specs.Recovery.{looked_of}
-use Rattle.vcpu_core.specs.World.{World, IsReady, IsLaneReady, IsPagedReady, IsPlaced, HasView, gone, went_in, go_of, went_of, go_all, erased, kept_if, lane_of, view_of, paged_in, blank_paged, blank_lane, logs_of, windows_of, verdict_in, with_lane, after_event}
+use Rattle.vcpu_core.specs.declared.lane.Went.TheVariants.{Over}
+use Rattle.vcpu_core.specs.Lanes.{blank_windows, in_phase, emptied, after_fill, after_look, after_mend, went_by}
+use Rattle.vcpu_core.specs.World.{World, IsReady, IsLaneReady, IsPlaced, HasView, gone, went_in, go_of, went_of, go_all, erased, kept_if, lane_of, view_of, paged_in, logs_of, windows_of, verdict_in, with_lane, after_event}
 use Rattle.vcpu_core.specs.Sound.{IsSoundView}
 use Rattle.vcpu_core.proofs.Verdicts.{verdict-may, ready-needs, ready-zeroes, ready-goes, ready-busy, IsNeed, IsZero, IsPlain, IsRead}
-use Rattle.vcpu_core.proofs.Ready.{named-below, set-lane, set-paged, IsNextBoard, same-board, board-lane-ready, with_lane-ready, patched-ready, next-in, text-in, windows-view, lane-ready-in}
-use Rattle.vcpu_core.proofs.Truth.{HasText, AreTruthful, IsClearedOf, HeldIs, IsOriginal, fill-held, truthful-logged, present-more, present-new, read-original, got-same, group-half}
+use Rattle.vcpu_core.proofs.Ready.{named-below, set-lane, set-paged, IsNextBoard, board-lane-ready, with_lane-ready, patched-ready, next-in, windows-view}
+use Rattle.vcpu_core.proofs.Truth.{HasText, AreTruthful, IsClearedOf, HeldIs, IsOriginal, fill-held, truthful-logged, present-new, read-original, got-same, group-half}
 
 -- a memory with the same layout, and the same bytes of text
 pub record IsRamKept (old new : Ram) : Type 0 where

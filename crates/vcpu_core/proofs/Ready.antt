@@ -1,28 +1,25 @@
 -- An event keeps the parts together.
-use Rattle.std.proofs.Common.{◌≡◌, ◌≢◌, ℕ, zero, suc, ◌+◌, ◌-◌, ◌*◌, ◌<◌, ◌≤◌, true, false, Bool, List, [], ◌∷◌, ◌++◌, length, refl, sym, ap, subst, ◌∙◌, arith, Option, Some, None, length-set}
-use Rattle.std.specs.Prelude.{◌==◌, slice_index_or, slice_set, nat_le, if◌then◌else◌}
+use Rattle.std.proofs.Common.{◌≡◌, ℕ, zero, suc, ◌+◌, ◌<◌, ◌≤◌, true, false, Bool, List, [], ◌∷◌, length, refl, sym, ap, subst, ◌∙◌, arith, Option, Some, None, length-set}
+use Rattle.std.specs.Prelude.{◌==◌, slice_index_or, slice_set, if◌then◌else◌}
 use Rattle.std.proofs.lemmas.Bool.Decides.{nat_tests}
-use Rattle.std.proofs.lemmas.Grind.{common_steps}
 use Rattle.std.proofs.lemmas.List.Quantifiers.{position-Some}
-use Rattle.function_table.specs.Groups.{Groups, group_at, groups_count, IsGroups}
 use Rattle.function_table.proofs.GroupLemmas.{group-below}
 use Rattle.chain_log.specs.declared.entry.LogEntry.{LogEntry}
-use Rattle.guest_ram.specs.Ram.{Ram, is_text}
+use Rattle.guest_ram.specs.Ram.{is_text}
 use Rattle.view_file.specs.Named.{view_named}
 use Rattle.view_store.specs.Paged.{PagedView, patched, logged, is_present}
-use Rattle.guest_board.specs.declared.step.Ready.{Ready}
 use Rattle.guest_board.specs.declared.seen.Windows.{Windows}
 use Rattle.guest_board.specs.declared.seen.Verdict.{Verdict}
 use Rattle.guest_board.specs.declared.seen.Verdict.TheVariants.{Idle, Needs, Zeroes, Goes}
-use Rattle.guest_board.specs.Board.{State, Seat, may, name_of, next_of, ready_at, stepped_by, moved}
-use Rattle.guest_board.specs.Seen.{after_verdict, half_no, by_ready, trapped_at}
+use Rattle.guest_board.specs.Board.{Seat, may, name_of, next_of, ready_at, stepped_by, moved}
+use Rattle.guest_board.specs.Seen.{after_verdict, by_ready, trapped_at}
 use Rattle.guest_board.specs.Step.{place_of}
 use Rattle.guest_board.proofs.Steps.{next-text, next-is, stepped-vcpus, stepped-names}
 use Rattle.vcpu_core.specs.declared.lane.Lane.{Lane}
 use Rattle.vcpu_core.specs.declared.lane.Phase.{Phase}
 use Rattle.vcpu_core.specs.declared.lane.Phase.TheVariants.{Running, Wants, Trapped, Looked}
-use Rattle.vcpu_core.specs.Lanes.{seated, blank_windows, after_turn, in_phase, emptied, after_fill, after_look, after_mend}
-use Rattle.vcpu_core.specs.World.{World, IsReady, IsLaneReady, IsPagedReady, IsPlaced, HasView, gone, lane_of, view_of, paged_in, blank_paged, blank_lane, windows_of, verdict_in, with_lane, after_event}
+use Rattle.vcpu_core.specs.Lanes.{seated, blank_windows, in_phase, emptied, after_fill, after_look, after_mend}
+use Rattle.vcpu_core.specs.World.{World, IsReady, IsLaneReady, IsPagedReady, IsPlaced, HasView, gone, lane_of, view_of, paged_in, blank_paged, blank_lane, windows_of, with_lane, after_event}
 use Rattle.vcpu_core.proofs.Verdicts.{verdict-may, ready-needs, ready-zeroes, ready-busy, IsNeed, IsZero}
 use Rattle.fc_numbers.specs.declared.places.Span.{Span}
 use Rattle.guest_ram.specs.Ram.{IsLaid}

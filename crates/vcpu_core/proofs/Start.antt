@@ -1,28 +1,23 @@
 -- The view machine before any event, and so after any.
-use Rattle.std.proofs.Common.{◌≡◌, ℕ, zero, suc, ◌+◌, ◌-◌, ◌*◌, ◌%◌, ◌/◌, ◌<◌, ◌≤◌, true, false, Bool, List, [], ◌∷◌, ◌++◌, length, refl, sym, ap, subst, ◌∙◌, arith, Option, Some, None, ◌⊎◌, inl, inr, get_or, length-append}
-use Rattle.std.specs.Prelude.{slice_index, slice_index_or, replicate, ◌||◌, nat_le}
+use Rattle.std.proofs.Common.{◌≡◌, ℕ, zero, suc, ◌+◌, ◌-◌, ◌*◌, ◌<◌, ◌≤◌, true, false, List, [], ◌∷◌, ◌++◌, length, refl, sym, ap, subst, ◌∙◌, arith, ◌⊎◌, inl, inr, get_or, length-append}
+use Rattle.std.specs.Prelude.{slice_index_or, replicate, ◌||◌, nat_le}
 use Rattle.std.proofs.lemmas.List.{get_or_append_left}
 use Rattle.std.proofs.Math.Seq.{get_or-append_seam}
 use Rattle.std.proofs.lemmas.Bool.Decides.{nat_tests}
 use Rattle.std.proofs.lemmas.Grind.{common_steps}
 use Rattle.fc_numbers.specs.declared.places.Span.{Span}
-use Rattle.fc_numbers.specs.declared.places.TheConstants.{RAM_START, RAM_MOST, PAGE}
-use Rattle.guest_image.specs.declared.image.Image.{Image}
-use Rattle.guest_image.specs.Accepted.{IsImage, IsSetupFor, IsPartOf, AllParts, PartsEndBy}
-use Rattle.function_table.specs.Groups.{groups_of}
+use Rattle.fc_numbers.specs.declared.places.TheConstants.{RAM_START, PAGE}
+use Rattle.guest_image.specs.Accepted.{AllParts, PartsEndBy}
 use Rattle.function_table.proofs.GroupLemmas.{groups-good}
 use Rattle.guest_ram.specs.Ram.{Ram, IsLaid, IsLawful as IsLawfulRam, placed, zero_ram}
 use Rattle.guest_ram.proofs.Laws.{placed-text, placed_is_laid, length-placed, placed-within, placed-other, zero_ram_is_laid}
-use Rattle.rv_step.specs.declared.vcpu.Vcpu.{Vcpu}
 use Rattle.view_file.specs.Named.{view_named}
-use Rattle.view_store.specs.Paged.{PagedView}
-use Rattle.guest_board.specs.First.{first_seat, first_state, first_ram, first_vcpus, first_vcpu, with_parts, text_of}
+use Rattle.guest_board.specs.First.{first_seat, first_state, first_ram, first_vcpus, with_parts, text_of}
 use Rattle.run_evidence.specs.Config.{Config, IsConfig, IsLawful, groups_in, full}
 use Rattle.run_evidence.specs.Evidence.{IsAllowed}
 use Rattle.view_file.specs.declared.views.Views.{Views}
-use Rattle.vcpu_core.specs.declared.lane.Lane.{Lane}
 use Rattle.vcpu_core.specs.First.{first_world, first_paged_views, first_paged, first_lanes, first_lane}
-use Rattle.vcpu_core.specs.World.{World, IsReady, paged_in, blank_paged, blank_lane, lane_of, logs_of, go_all, erased}
+use Rattle.vcpu_core.specs.World.{IsReady, paged_in, blank_paged, blank_lane, lane_of, logs_of, go_all, erased}
 use Rattle.vcpu_core.specs.Sound.{IsSound, IsSoundView}
 use Rattle.vcpu_core.proofs.Truth.{HasText}
 use Rattle.vcpu_core.proofs.Kept.{IsKept, IsFull, IsTruthful, RamStays, go_all-kept, go_all-schedule}

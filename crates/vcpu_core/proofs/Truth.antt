@@ -1,6 +1,6 @@
 -- What the windows of a lane are, and that a step by truthful windows is the full kernel's step.
-use Rattle.std.proofs.Common.{◌≡◌, ◌≢◌, ℕ, zero, suc, ◌+◌, ◌-◌, ◌*◌, ◌/◌, ◌%◌, ◌^◌, ◌<◌, ◌≤◌, true, false, Bool, List, [], ◌∷◌, ◌++◌, length, refl, sym, ap, subst, ◌∙◌, arith, Option, Some, None, ◌⊎◌, inl, inr}
-use Rattle.std.specs.Prelude.{◌==◌, slice_index, slice_index_or, nat_le, nat_lt, count_by, if◌then◌else◌}
+use Rattle.std.proofs.Common.{◌≡◌, ◌≢◌, ℕ, ◌+◌, ◌-◌, ◌*◌, ◌/◌, ◌%◌, ◌<◌, ◌≤◌, true, false, Bool, List, [], ◌∷◌, ◌++◌, length, refl, sym, ap, subst, ◌∙◌, arith, Option, Some, None, ◌⊎◌, inl, inr}
+use Rattle.std.specs.Prelude.{◌==◌, slice_index, nat_le}
 use Rattle.std.proofs.lemmas.Grind.{common_steps}
 use Rattle.std.proofs.lemmas.Bool.Decides.{nat_tests}
 use Rattle.fc_numbers.specs.declared.pair.Pair.{Pair}
@@ -10,17 +10,16 @@ use Rattle.guest_image.specs.Accepted.{IsAscendingFrom}
 use Rattle.function_table.specs.Groups.{Groups, group_in, group_at, groups_count, range_of, half_of, is_between, IsRangeOf, IsGroups}
 use Rattle.function_table.proofs.GroupLemmas.{range_is}
 use Rattle.chain_log.specs.declared.entry.LogEntry.{LogEntry}
-use Rattle.guest_ram.specs.Ram.{Ram, is_text, value}
+use Rattle.guest_ram.specs.Ram.{Ram, is_text}
 use Rattle.guest_ram.specs.Value.{value_at}
-use Rattle.view_store.specs.Paged.{PagedView, masked, pair_of, is_present, logged}
+use Rattle.view_store.specs.Paged.{PagedView, pair_of, is_present, logged}
 use Rattle.guest_board.specs.declared.fetch.Fetched.{Fetched}
 use Rattle.guest_board.specs.declared.fetch.Fetched.TheVariants.{Short, Long, Faults, Stops}
 use Rattle.guest_board.specs.declared.step.Ready.{Ready}
-use Rattle.guest_board.specs.declared.step.Ready.TheVariants.{Interrupt, Fetches}
 use Rattle.guest_board.specs.declared.seen.Windows.{Windows}
 use Rattle.guest_board.specs.Fetch.{text_place, place_if, with_halves, half_at}
 use Rattle.guest_board.specs.Seen.{half_no, is_cleared, first_of, second_of}
-use Rattle.guest_board.proofs.Places.{HalvesAre, IsShort, IsLong, IsBehind, text_place-is}
+use Rattle.guest_board.proofs.Places.{HalvesAre, IsBehind}
 use Rattle.vcpu_core.proofs.Verdicts.{IsRead}
 
 -- the number of starts at most an offset is that at its halfword, since starts are even

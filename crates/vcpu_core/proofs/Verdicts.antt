@@ -1,5 +1,5 @@
 -- What a verdict says of the place about to be fetched, and of the step that it lets go.
-use Rattle.std.proofs.Common.{◌≡◌, ◌≢◌, ℕ, ◌+◌, ◌-◌, ◌*◌, ◌<◌, ◌≤◌, true, false, Bool, refl, sym, ap, subst, ◌∙◌, arith, Option, Some, None, ◌⊎◌, inl, inr}
+use Rattle.std.proofs.Common.{◌≡◌, ◌≢◌, ℕ, true, false, refl, sym, ap, subst, ◌∙◌, arith, Option, Some, None, ◌⊎◌, inl, inr}
 use Rattle.std.specs.Prelude.{◌==◌, ◌&&◌, not, nat_eq, if◌then◌else◌}
 use Rattle.std.proofs.lemmas.Bool.Decides.{nat_tests}
 use Rattle.fc_numbers.specs.declared.pair.Pair.{Pair}
@@ -8,13 +8,11 @@ use Rattle.guest_board.specs.declared.fetch.Fetched.{Fetched}
 use Rattle.guest_board.specs.declared.step.Ready.{Ready}
 use Rattle.guest_board.specs.declared.step.Ready.TheVariants.{Interrupt, Fetches}
 use Rattle.guest_board.specs.declared.seen.Windows.{Windows}
-use Rattle.guest_board.specs.declared.seen.Verdict.{Verdict}
 use Rattle.guest_board.specs.declared.seen.Verdict.TheVariants.{Idle, Needs, Zeroes, Goes}
 use Rattle.guest_board.specs.Fetch.{text_place, with_halves}
 use Rattle.guest_board.specs.Step.{place_of}
-use Rattle.guest_board.specs.Board.{State, may, next_of, ready_at}
+use Rattle.guest_board.specs.Board.{State, may, ready_at}
 use Rattle.guest_board.specs.Seen.{verdict_of, by_ready, by_place, by_pair, by_halves, half_no, is_cleared, first_of, second_of}
-use Rattle.guest_board.proofs.Steps.{next-is}
 
 -- where a vCPU may step, its verdict goes by what its next step begins with
 pub verdict-may : (steps : ℕ) (s : State) (i : ℕ) (w : Windows) → may steps s i ≡ true → verdict_of steps s i w ≡ by_ready s.ram.text.start w (ready_at s i)

@@ -1,31 +1,30 @@
 -- Each event without a step leaves fewer of them before the next step, and there are never ten.
-use Rattle.std.proofs.Common.{◌≡◌, ◌≢◌, ℕ, zero, suc, ◌+◌, ◌-◌, ◌*◌, ◌<◌, ◌≤◌, true, false, Bool, List, [], ◌∷◌, ◌++◌, length, refl, sym, ap, subst, ◌∙◌, arith, Option, Some, None}
+use Rattle.std.proofs.Common.{◌≡◌, ◌≢◌, ℕ, zero, suc, ◌+◌, ◌<◌, ◌≤◌, true, false, List, [], ◌∷◌, ◌++◌, length, refl, sym, ap, subst, ◌∙◌, arith, Option, Some, None}
 use Rattle.std.specs.Prelude.{◌==◌, slice_index, slice_index_or, slice_set, replicate, if◌then◌else◌}
 use Rattle.std.proofs.lemmas.Grind.{common_steps}
 use Rattle.std.proofs.lemmas.Bool.Decides.{nat_tests}
 use Rattle.fc_numbers.specs.declared.pair.Pair.{Pair}
 use Rattle.fc_numbers.specs.declared.places.Span.{Span}
-use Rattle.function_table.specs.Groups.{Groups, group_at, groups_count, range_of, is_between, IsRangeOf, IsGroups}
+use Rattle.function_table.specs.Groups.{Groups, group_at, range_of, is_between, IsRangeOf, IsGroups}
 use Rattle.function_table.proofs.GroupLemmas.{range_is, group-below}
-use Rattle.guest_board.specs.declared.step.Ready.{Ready}
 use Rattle.guest_board.specs.declared.seen.Windows.{Windows}
 use Rattle.guest_board.specs.declared.seen.Verdict.{Verdict}
 use Rattle.guest_board.specs.declared.seen.Verdict.TheVariants.{Idle, Needs, Zeroes, Goes}
 use Rattle.guest_board.specs.Step.{place_of}
-use Rattle.guest_board.specs.Board.{State, Seat, may, next_of, ready_at, stepped_by, counted}
-use Rattle.guest_board.specs.Seen.{after_verdict, half_no, is_cleared, by_ready, verdict_of}
+use Rattle.guest_board.specs.Board.{Seat, may, next_of, ready_at, counted}
+use Rattle.guest_board.specs.Seen.{after_verdict, half_no, by_ready}
 use Rattle.guest_board.proofs.Steps.{next-is, may-count, may-vcpu, stepped-counts}
 use Rattle.vcpu_core.specs.declared.lane.Lane.{Lane}
 use Rattle.vcpu_core.specs.declared.lane.Phase.{Phase}
 use Rattle.vcpu_core.specs.declared.lane.Phase.TheVariants.{Running, Wants, Trapped, Looked}
 use Rattle.vcpu_core.specs.declared.lane.Went.{Went}
 use Rattle.vcpu_core.specs.declared.lane.Went.TheVariants.{Over, Stepped, Erased}
-use Rattle.vcpu_core.specs.Lanes.{seated, blank_windows, emptied, after_turn, in_phase, after_fill, after_look, after_mend, went_by}
+use Rattle.vcpu_core.specs.Lanes.{seated, after_turn, after_fill, after_look, after_mend, went_by}
 use Rattle.vcpu_core.specs.Waits.{unfilled, filled, held_waits, window_waits, phase_waits, waits_of, left_of}
-use Rattle.vcpu_core.specs.World.{World, IsReady, IsLaneReady, IsPlaced, HasView, paged_in, gone, went_in, go_of, went_of, go_all, lane_of, view_of, windows_of, verdict_in, with_lane, after_event, blank_lane}
+use Rattle.vcpu_core.specs.World.{World, IsReady, IsLaneReady, HasView, paged_in, gone, went_in, go_of, went_of, go_all, lane_of, view_of, windows_of, verdict_in, after_event, blank_lane}
 use Rattle.vcpu_core.specs.Sound.{AllErased}
 use Rattle.vcpu_core.proofs.Verdicts.{verdict-may, ready-needs, ready-zeroes, ready-busy, IsNeed, IsZero}
-use Rattle.vcpu_core.proofs.Ready.{next-in, windows-view}
+use Rattle.vcpu_core.proofs.Ready.{next-in}
 
 unfilled-most : (cleared : Option Span) (next : Option ℕ) → unfilled cleared next ≤ 7
 unfilled-most cleared None = omega arith

@@ -1,6 +1,6 @@
 -- The view machine before any event.
 -- The rule: a view for each app and the full view, each with its base and an empty log; lanes that hold nothing.
-use Rattle.std.specs.Prelude.{ℕ, ◌+◌, Option, List, [], ◌∷◌, ◌++◌, length}
+use Rattle.std.specs.Prelude.{ℕ, ◌+◌, List, [], ◌∷◌, ◌++◌, length}
 use Rattle.std.proofs.Common.{zero, suc}
 use Rattle.view_file.specs.Named.{view_named}
 use Rattle.view_file.specs.Base.{base_of}

@@ -1,11 +1,9 @@
 -- What is true of the view machine after any list of events.
-use Rattle.std.specs.Prelude.{◌≡◌, ℕ, ◌+◌, ◌<◌, List, [], length}
+use Rattle.std.specs.Prelude.{◌≡◌, ℕ, ◌+◌, ◌<◌, List, length}
 use Rattle.view_file.specs.Base.{base_of}
 use Rattle.view_store.specs.Paged.{PagedView}
-use Rattle.guest_board.specs.Board.{State}
 use Rattle.run_evidence.specs.Config.{Config, groups_in, full, IsLawful}
 use Rattle.run_evidence.specs.Evidence.{AllJustified, AllOfView, IsAllowed, IsOnce}
-use Rattle.vcpu_core.specs.declared.lane.Went.{Went}
 use Rattle.vcpu_core.specs.declared.lane.Went.TheVariants.{Erased}
 use Rattle.vcpu_core.specs.World.{World, paged_in, logs_of, go_of, went_of}
 use Rattle.std.proofs.Common.{zero, suc}

@@ -1,8 +1,7 @@
-use Rattle.std.proofs.Common.{rules, ◌≡◌, ◌∙◌, ap, sym, subst, refl, ℕ, List, [], ◌∷◌, ◌++◌}
+use Rattle.std.proofs.Common.{◌≡◌, ◌∙◌, ap, sym, subst, refl}
 use Rattle.std.specs.Prelude.{string_bytes}
 use Rattle.facechange_cli.specs.Answers.{line_of}
 use Rattle.facechange_cli.specs.Command.{Outside, IsAnswer}
-use Rattle.facechange_cli.specs.declared.command.Told.{Told}
 use Rattle.facechange_cli.proofs.Refusals.{ok-map, refused-answer, IsReadOnly}
 use Rattle.facechange_cli.proofs.command.answer.Goals as goal
 

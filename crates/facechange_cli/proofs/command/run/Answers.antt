@@ -1,8 +1,8 @@
-use Rattle.std.proofs.Common.{rules, ◌≡◌, ◌∙◌, ap, sym, subst, refl, Err, ℕ, List, [], ◌∷◌, ◌++◌}
+use Rattle.std.proofs.Common.{◌∙◌, ap, sym, subst, Err}
 use Rattle.guest_image.specs.Accepted.{IsSetupFor}
 use Rattle.facechange_cli.specs.Words.{Wanted}
 use Rattle.facechange_cli.specs.Files.{GivesImage, GivesViews, ViewsSaid}
-use Rattle.facechange_cli.proofs.Refusals.{image-counts, image-said, views-counts, views-said}
+use Rattle.facechange_cli.proofs.Refusals.{views-said}
 use Rattle.facechange_cli.proofs.Setups.{alone-setup}
 use Rattle.facechange_cli.proofs.command.run.Goals as goal
 

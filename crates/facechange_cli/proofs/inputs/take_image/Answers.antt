@@ -1,4 +1,4 @@
-use Rattle.std.proofs.Common.{rules, ◌≡◌, subst, sym}
+use Rattle.std.proofs.Common.{subst, sym}
 use Rattle.facechange_cli.specs.Files.{ImageCounts}
 use Rattle.facechange_cli.proofs.inputs.take_image.Goals as goal
 

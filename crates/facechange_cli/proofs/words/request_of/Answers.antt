@@ -1,4 +1,4 @@
-use Rattle.std.proofs.Common.{rules, ◌≡◌, ◌≤◌, ◌<◌, ◌∙◌, ap, sym, ℕ, List, ◌∷◌, [], length, map, arith, decimal, refl}
+use Rattle.std.proofs.Common.{◌≡◌, ◌∙◌, sym, ◌∷◌, [], length, map, arith, refl}
 use Rattle.std.specs.Prelude.{string_bytes, codes}
 use Rattle.view_file.proofs.Leasts.{text_same}
 use Rattle.facechange_cli.proofs.Forms.{bad-steps, item-at, six-items}

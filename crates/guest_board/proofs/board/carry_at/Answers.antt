@@ -1,7 +1,6 @@
-use Rattle.std.proofs.Common.{◌≡◌, sym, subst, ap}
+use Rattle.std.proofs.Common.{sym, subst, ap}
 use Rattle.guest_ram.specs.Ram.{Ram}
 use Rattle.rv_step.specs.Kept.{KeepsText}
-use Rattle.rv_step.specs.Site.{Site}
 use Rattle.guest_board.specs.Step.{Made}
 use Rattle.guest_board.proofs.Stays.{made_keeps}
 use Rattle.guest_board.proofs.board.carry_at.Goals as goal

@@ -1,4 +1,4 @@
-use Rattle.std.proofs.Common.{◌≡◌, ◌≤◌, ◌+◌, ap, subst, sym, arith}
+use Rattle.std.proofs.Common.{◌≤◌, ◌+◌, arith}
 use Rattle.std.specs.Prelude.{slice_index}
 use Rattle.guest_board.specs.Board.{deeper}
 use Rattle.guest_board.proofs.Steps.{depths-below, deeper-most}

@@ -1,5 +1,5 @@
 use Rattle.std.proofs.Common.{◌≡◌, ℕ, ◌+◌, ◌≤◌, List, length, get_or, sym, subst, ap, arith}
-use Rattle.fc_numbers.specs.declared.places.TheConstants.{RAM_START, RAM_MOST}
+use Rattle.fc_numbers.specs.declared.places.TheConstants.{RAM_START}
 use Rattle.guest_image.specs.Accepted.{IsPartOf}
 use Rattle.guest_board.proofs.Parts.{part-at, ends-at}
 use Rattle.guest_board.proofs.open.place_parts.Goals as goal

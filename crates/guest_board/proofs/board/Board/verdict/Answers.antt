@@ -1,4 +1,4 @@
-use Rattle.std.proofs.Common.{◌≡◌, ℕ, Option, sym, subst, arith, ap}
+use Rattle.std.proofs.Common.{sym, subst, arith, ap}
 use Rattle.fc_numbers.specs.declared.places.Span.{Span}
 use Rattle.guest_board.specs.declared.step.Ready.{Ready}
 use Rattle.guest_board.specs.Step.{place_of}
