@@ -16,6 +16,8 @@ ghost use Rattle.rv_words.specs.Words.{encode_of};
 
 mod candidate;
 #[cfg(test)]
+mod rows;
+#[cfg(test)]
 mod tests;
 mod word;
 

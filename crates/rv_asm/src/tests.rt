@@ -1,8 +1,9 @@
 //! Words and halfwords that were worked out by hand from the manual's listings, or that are printed in every
 //! disassembly, as 0xff010113 for `addi sp,sp,-16`.
 
+use crate::rows::rows;
 use crate::{encode, squeeze};
-use rv_decode::Inst;
+use rv_decode::{Inst, decode32};
 
 #[test]
 fn words_of_every_format_are_encoded(rt: HostRuntime) {
@@ -268,5 +269,17 @@ fn the_least_halfword_is_taken(rt: HostRuntime) {
         ),
     ] {
         assert_eq!(rt; squeeze(&i), want);
+    }
+}
+
+/// No two instructions have one word, so that what has the word of the row is the row's instruction.
+#[test]
+fn one_word_of_every_row_is_encoded_and_decoded(rt: HostRuntime) {
+    for (inst, word) in rows() {
+        assert!(rt; encode(inst) == Some(*word));
+        match decode32(*word) {
+            Some(again) => assert!(rt; encode(&again) == Some(*word)),
+            None => assert!(rt; false, "at {word}"),
+        }
     }
 }
