@@ -4,3 +4,4 @@ pub mod Ascending
 pub mod Missed
 pub mod Logged
 pub mod OneVcpu
+pub mod Staying

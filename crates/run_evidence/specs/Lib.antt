@@ -1,3 +1,4 @@
 pub mod Config
 pub mod Evidence
 pub mod Misses
+pub mod Stays

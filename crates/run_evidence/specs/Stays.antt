@@ -1,0 +1,14 @@
+-- What is evidence stays evidence: entries and fetches are looked at by a front part of the schedule alone.
+use Rattle.std.specs.Prelude.{◌≡◌, ℕ, true, List, [], ◌∷◌, ◌++◌}
+use Rattle.chain_log.specs.declared.entry.LogEntry.{LogEntry}
+use Rattle.run_evidence.specs.Config.{Config}
+use Rattle.run_evidence.specs.Evidence.{IsJustified, IsAllowed, is_logged, log_in}
+
+-- an entry that is justified stays so when the schedule grows by a step
+abbrev pub JustifiedStays : Type 0
+JustifiedStays = (c : Config) (schedule : List ℕ) (i : ℕ) (e : LogEntry) → IsJustified c schedule e → IsJustified c (schedule ++ i ∷ []) e
+
+-- fetches that are allowed stay so when the logs have more
+abbrev pub AllowedStays : Type 0
+AllowedStays = (c : Config) (schedule : List ℕ) (logs more : List (List LogEntry))
+    → ((v t g : ℕ) → is_logged (log_in logs v) t g ≡ true → is_logged (log_in more v) t g ≡ true) → IsAllowed c logs schedule → IsAllowed c more schedule
