@@ -63,17 +63,17 @@ fn page_of(entry: u64) -> u64
     (entry >> 10) % (1 << 44)
 }
 
-/// The pages of a leaf of this level.
-fn pages_of(level: u32) -> u64
+/// What is left of a page number where the pages of a leaf of this level are taken away. Each arm divides by a
+/// constant, since this stands on the way of every access.
+fn page_in_leaf(level: u32, page: u64) -> u64
     requires { level ≤ 2 }
-    ensures value { result ≡ 512 ^ level }
-    ensures some { 0 < result }
-    ensures most { result ≤ 2 ^ 18 }
+    ensures value { result ≡ page % 512 ^ level }
+    ensures most { result < 2 ^ 18 }
 {
     match level {
-        0 => 1,
-        1 => 512,
-        _ => 262_144,
+        0 => 0,
+        1 => page % 512,
+        _ => page % 262_144,
     }
 }
 
@@ -82,11 +82,10 @@ fn leaf_at(level: u32, at: u64, entry: u64) -> Option<Leaf>
     requires { level ≤ 2 }
     ensures { result ≡ leaf_at level at entry }
 {
-    let pages = pages_of(level);
     let page = page_of(entry);
-    if has_bit(entry, A) && page % pages == 0 {
+    if has_bit(entry, A) && page_in_leaf(level, page) == 0 {
         Some(Leaf {
-            page: page + (at >> 12) % pages,
+            page: page + page_in_leaf(level, at >> 12),
             read: has_bit(entry, R),
             write: has_bit(entry, W) && has_bit(entry, D),
             execute: has_bit(entry, X),
