@@ -3,8 +3,8 @@
 use crate::command::face_change_still;
 use crate::programs::programs;
 use crate::tables::{
-    damages, failings, hello_log, hello_parts, hello_views, kernels, other_words, put_kernel,
-    refused_files, split_kernel, split_tables,
+    damages, failings, hello_log, hello_parts, hello_views, kernels, other_words, put_elf,
+    put_kernel, refused_files, split_kernel, split_tables,
 };
 use elf_read::parts::ElfFault;
 use fc_outside::memory::MemStore;
@@ -267,5 +267,22 @@ fn every_front_part_of_a_kernel_is_refused(rt: HostRuntime) -> Result<(), Fail> 
             Err(fault) => assert!(rt; fault == wanted),
         }
     }
+    Ok(())
+}
+
+/// The ELF file of the first kernel gives the image of its plain form, with the digest for which the views are.
+#[test]
+fn both_forms_of_a_kernel_give_one_image(rt: HostRuntime) -> Result<(), Fail> {
+    let alloc = rt.alloc();
+    let (digits, log) = put_elf();
+    let (_, views) = put_kernel();
+    let mut image = Vec::new(alloc);
+    if let Ok(bytes) = hex::decode(alloc, digits.as_bytes()) {
+        image.extend_from_slice(bytes.as_slice())?;
+    }
+    let came = call_with(alloc, &TRY, image.as_slice(), views)?;
+    assert!(rt; came.status == 0);
+    assert!(rt; came.out.bytes() == b"A".as_slice());
+    assert!(rt; came.store.bytes("log") == Some(log));
     Ok(())
 }
