@@ -1,11 +1,11 @@
 -- What the parts of the top call promise, put together.
 use Rattle.std.specs.Prelude.{Result, IfOk}
-use Rattle.std.proofs.Common.{◌≡◌, Some, Ok, Err}
+use Rattle.std.proofs.Common.{◌≡◌, Some, Ok, Err, inl}
 use Rattle.fc_outside.specs.Outside.{Faults}
 use Rattle.guest_image.specs.declared.image.Image.{Image}
 use Rattle.facechange_cli.specs.Words.{Wanted}
 use Rattle.facechange_cli.specs.Files.{GivesImage, ImageSaid, ImageCounts, ViewsSaid, ViewsCounts}
-use Rattle.facechange_cli.specs.Command.{Outside, Told, IsRefusal, IsAnswer, IsUntouched}
+use Rattle.facechange_cli.specs.Command.{Outside, Told, IsRefusal, IsAnswer, IsUntouched, CountsReads}
 use Rattle.facechange_cli.specs.Inner.{RunCounts}
 use Rattle.facechange_cli.specs.declared.answer.Answer.{Answer}
 use Rattle.facechange_cli.specs.declared.answer.Answer.TheVariants.{Finished, NoForm, Image as NoImage, Views as NoViews, Unread, Unwritten, Stopped, NoMemory}
@@ -69,8 +69,8 @@ pub record IsReadOnly (b a : Outside) : Type 0 where
 untouched : (b a : Outside) → IsReadOnly b a → IsUntouched b a
 untouched b a same = record { files = same.files; out = same.out }
 
-pub memory-answer : (w : Wanted) (b a : Outside) → IsReadOnly b a → IsAnswer w b a NoMemory
-memory-answer w b a same = record { said = λ at told. tt; reads = tt; writes = same.writes; puts = same.puts; kept = untouched b a same }
+pub memory-answer : (w : Wanted) (b a : Outside) → IsReadOnly b a → CountsReads w b.reads a.reads NoMemory → IsAnswer w b a NoMemory
+memory-answer w b a same counts = record { said = λ at told. tt; reads = counts; writes = same.writes; puts = same.puts; kept = untouched b a same }
 
 pub refused-answer : (w : Wanted) (b a : Outside) (x : Answer) → ((at : Told) → b.files ≡ Some at → IsRefusal w at x) → RunCounts w b.reads a.reads (Err x) → IsReadOnly b a
     → IsAnswer w b a x
@@ -82,4 +82,4 @@ refused-answer w b a (Unread input.Image) why k same = record { said = why; read
 refused-answer w b a (Unread input.Views) why k same = record { said = why; reads = k; writes = same.writes; puts = same.puts; kept = untouched b a same }
 refused-answer w b a (Unwritten output) why k same = absurd k
 refused-answer w b a (Stopped stop) why k same = absurd k
-refused-answer w b a NoMemory why k same = memory-answer w b a same
+refused-answer w b a NoMemory why k same = memory-answer w b a same (inl k)

@@ -86,11 +86,11 @@ IsSaid w at before after (Unwritten output.Console) = HasLostConsole w at before
 IsSaid w at before after other = IsRefusal w at other
 
 -- A fault of reading or writing is answered only where the store, or standard output, counted one, with the name of the
--- file. No other answer counts one, but that want of memory may come after a read that failed.
+-- file. No other answer counts one, but that want of memory may come after a read of an input that failed.
 abbrev pub CountsReads : Wanted → Faults → Faults → Answer → Type 0
 CountsReads w before after (Unread input.Image) = IsFaultOf w.image before after
 CountsReads w before after (Unread input.Views) = IsFaultOf w.views before after
-CountsReads w before after NoMemory = Unit {0}
+CountsReads w before after NoMemory = (after ≡ before) ⊎ (IsFaultOf w.image before after ⊎ IsFaultOf w.views before after)
 CountsReads w before after other = after ≡ before
 
 abbrev pub CountsWrites : Wanted → Faults → Faults → Answer → Type 0
