@@ -2,6 +2,7 @@
 //!
 //! - [`places`]: guest places and addresses, the numbers of vCPUs, views and groups, spans of places.
 //! - [`machine`]: privilege modes, kinds of access, access widths, and how a run ends.
+//! - [`spans`]: kernel text as ranges of places, and the offsets of its bytes; [`laws`]: how the two go together.
 //! - [`regs`]: the 32 integer registers, and sign extension.
 //! - [`name`]: the name of an application.
 //! - [`pair`]: the two halfwords of a view's pages that a lane holds.
@@ -12,6 +13,7 @@
 //! here knows of a guest, an image or a view. Every other crate of the monitor stands on this one.
 #![tactic(auto)]
 
+pub mod laws;
 pub mod machine;
 pub mod memory;
 pub mod name;
@@ -19,3 +21,4 @@ pub mod pair;
 pub mod places;
 pub mod regs;
 pub mod shared;
+pub mod spans;

@@ -26,6 +26,15 @@ pub enum Width {
     Doubleword,
 }
 
+/// The kind of a second-stage table (privileged manual, "Two-Stage Address Translation").
+#[derive(Debug, Clone, Copy, PartialEq, Eq)]
+pub enum GKind {
+    /// Three levels, and places of 41 bits.
+    Sv39x4,
+    /// Four levels, and places of 50 bits.
+    Sv48x4,
+}
+
 /// Why the monitor stops a run by name.
 #[derive(Debug, Clone, Copy, PartialEq, Eq)]
 pub enum Stop {

@@ -1,6 +1,7 @@
 //! Places, addresses and numbers. In contracts each is the plain number that it holds.
 
-ghost use Rattle.std.specs.Prelude.{◌≡◌, ◌+◌, ◌%◌, ◌^◌, ◌<◌, ◌≤◌, ◌&&◌, nat_le, nat_lt};
+ghost use Rattle.std.specs.Prelude.{◌≡◌};
+ghost use Rattle.fc_numbers.specs.Spans.{holds};
 
 use std::marker::Model;
 
@@ -94,7 +95,7 @@ impl Model for GroupNo {
 }
 
 /// The places from `start` up to, and without, `end`.
-#[derive(Debug, Clone, Copy, PartialEq, Eq)]
+#[derive(Debug, Clone, Copy, PartialEq, Eq, Default)]
 pub struct Span {
     pub start: Gpa,
     pub end: Gpa,
@@ -103,7 +104,7 @@ pub struct Span {
 impl Span {
     /// Whether the place is one of the span's.
     pub fn contains(&self, place: Gpa) -> bool
-        ensures { result ≡ (nat_le self.now.start place && nat_lt place self.now.end) }
+        ensures { result ≡ holds self.now place }
     {
         self.start.0 <= place.0 && place.0 < self.end.0
     }
