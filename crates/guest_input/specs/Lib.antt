@@ -1,0 +1,4 @@
+pub mod Text
+pub mod TextIn
+pub mod PartIn
+pub mod Accepted
