@@ -6,7 +6,7 @@ use borrow.Author.Tests.{leb-true, leb-false}
 use Rattle.std.proofs.lemmas.Grind.{common_steps}
 use Rattle.std.proofs.lemmas.Bool.Decides.{nat_tests}
 use Rattle.std.proofs.lemmas.List.Elements.{All-contains, All-contains_itself, All-filter}
-use Rattle.std.proofs.lemmas.List.{get_or-map, length-map}
+use Rattle.std.proofs.lemmas.List.{get_or-map, get_or_past, length-map}
 use Rattle.std.proofs.lemmas.List.Sums.{count_by-le-length}
 use Rattle.fc_numbers.specs.declared.places.Span.{Span}
 use Rattle.fc_numbers.specs.declared.places.TheConstants.{RAM_START}
@@ -15,7 +15,8 @@ use Rattle.fc_numbers.specs.Spans as spans
 use Rattle.fc_numbers.proofs.TextLaws.{end_near, offset_below, offset_page, offset_place, place_inside, place_near, place_offset, size_pages}
 use Rattle.guest_input.specs.declared.image.Image.{Image}
 use Rattle.guest_input.specs.declared.image.Function.{Function}
-use Rattle.guest_input.specs.Text.{IsStartIn, bytes_before, bytes_of, no_span, spans_of}
+use Rattle.guest_input.specs.declared.image.Start.{Start}
+use Rattle.guest_input.specs.Text.{IsStartIn, bytes_before, bytes_of, flat_of, no_span, spans_of}
 use Rattle.guest_input.specs.Accepted.{IsAscendingFrom, IsStarts, IsImage, starts_of}
 use Rattle.function_table.specs.Groups.{Groups, IsRangeOf, IsGroups, group_in, group_at, groups_of, groups_count, range_of, first_of, last_of, in_text, is_between, is_closed, begins_range, has_start, is_open, half_of, function_in}
 
@@ -277,6 +278,21 @@ pub before-within : (ss : List Span) (n : ℕ) → n < length ss → bytes_befor
 before-within [] n inside = absurd (omega arith)
 before-within (s ∷ ss) zero inside = omega arith
 before-within (s ∷ ss) (suc n) inside = omega (arith, before-within ss n (omega arith))
+
+-- the offset of a start is one of text
+pub start-below : (text : List Span) (at : Start) → has_start text at ≡ true → flat_of text at < text_size text
+start-below text at here =
+    let inside : at.offset < size_of (slice_index_or text at.range no_span) = grind (arith, nat_tests, here) in
+    elim (nat_lt at.range (length text)) as (λ b. nat_lt at.range (length text) ≡ b → flat_of text at < text_size text) [
+      | true ↦ λ e.
+          let range : at.range < length text = grind (arith, nat_tests, e) in
+          omega (arith, before-within text at.range range, inside)
+      | false ↦ λ e.
+          let past : length text ≤ at.range = grind (arith, nat_tests, e) in
+          let none : slice_index_or text at.range no_span ≡ no_span = get_or_past text at.range no_span past in
+          let size : size_of (slice_index_or text at.range no_span) ≡ 0 = ap (λ (s : Span). size_of s) none in
+          absurd (omega (arith, size, inside))
+    ] refl
 
 pub some-held : (b : Bool) (x y : ℕ) → (if b then Some x else None) ≡ Some y → (b ≡ true) × (x ≡ y)
 some-held true x y e = (refl, cc)
