@@ -6,8 +6,8 @@
 //! Nothing here changes a view.
 #![tactic(auto)]
 
-ghost use Rattle.std.specs.Prelude.{◌≡◌, ◌≤◌, ◌<◌, ◌+◌};
-ghost use Rattle.function_table.specs.Groups.{groups_count};
+ghost use Rattle.std.specs.Prelude.{◌≡◌, ◌<◌, true};
+ghost use Rattle.function_table.specs.Groups.{groups_count, in_text};
 ghost use Rattle.recovery.specs.Recovery.{looked_of};
 
 use chain_log::entry::{LogEntry, Trapped};
@@ -23,8 +23,7 @@ pub struct Looked {
 
 /// Looks up the group of a trap's place, which is in text.
 pub fn look(table: &Table, t: Trapped) -> Looked
-    requires low { table.now.base ≤ t.pc }
-    requires high { t.pc < table.now.base + table.now.size }
+    requires { in_text table.now t.pc ≡ true }
     ensures value { result ≡ looked_of table.now t }
     ensures group { result.group < groups_count table.now }
 {

@@ -1,28 +1,68 @@
 //! A trap of a small kernel, looked up by hand.
 
+ghost use Rattle.std.specs.Prelude.{◌≡◌, [], ◌∷◌, IfOk};
+ghost use Rattle.guest_input.specs.Accepted.{IsImage};
+ghost use Rattle.guest_input.specs.Text.{spans_of};
+
 use crate::look;
 use arrayvec::ArrayVec;
 use chain_log::entry::{Chain, Trapped};
-use fc_numbers::places::{Gpa, VcpuNo, ViewNo};
+use fc_numbers::memory::NoMemory;
+use fc_numbers::places::{Gpa, Span, VcpuNo, ViewNo};
+use fc_numbers::shared::SharedBytes;
+use fc_numbers::spans::Spans;
 use function_table::table::Table;
-use guest_image::image_file::read_image;
+use guest_input::image::{Function, Image, Start};
+use guest_input::ranges::Ranges;
+use sqlite_items::Items;
+use std::alloc::Global;
 use std::test::Fail;
 
-/// The functions `main` at 0 and `put` at 12, in one page of text.
-const IMAGE: &str =
-    "{\"base\":2147483648,\"entry\":2147483648,\"text\":\"ef00c000a148730000000100854813051004730000008280\",\"functions\":[[2147483660,\"put\"],[2147483648,\"main\"]]}";
+/// The places of one page from the start of memory.
+fn one_page() -> Spans
+    ensures { result.items ≡ record { start = 0x80000000; end = 0x80001000 } ∷ [] }
+{
+    let mut spans = Spans::new();
+    spans.push(Span {
+        start: Gpa(0x8000_0000),
+        end: Gpa(0x8000_1000),
+    });
+    spans
+}
+
+/// A function at this offset of the first range.
+fn function(alloc: Global, offset: u32) -> Function
+    ensures { result.at ≡ record { range = 0; offset = offset } }
+{
+    Function {
+        at: Start { range: 0, offset },
+        name: Items::new(alloc),
+    }
+}
+
+/// A kernel of one page of zeros, with functions at 0 and at 12.
+fn kernel(alloc: Global) -> Result<Image, NoMemory>
+    ensures image { IfOk result (λ image. IsImage image) }
+    ensures spans { IfOk result (λ image. spans_of image.ranges ≡ record { start = 0x80000000; end = 0x80001000 } ∷ []) }
+{
+    let bytes = vec![in alloc; 0u8; 4096]?;
+    let mut functions = Items::new(alloc);
+    functions.push(function(alloc, 0))?;
+    functions.push(function(alloc, 12))?;
+    Ok(Image {
+        entry: 0x8000_0000,
+        ranges: Ranges::of(one_page(), SharedBytes::from_vec(bytes)?),
+        parts: Items::new(alloc),
+        functions,
+        digest: [0; 32],
+    })
+}
 
 #[test]
-fn a_trap_at_put_asks_for_its_group(rt: HostRuntime) -> Result<(), Fail> {
+fn a_trap_asks_for_the_group_of_its_place(rt: HostRuntime) -> Result<(), Fail> {
     let alloc = rt.alloc();
-    let Ok(image) = read_image(alloc, IMAGE.as_bytes()) else {
-        assert!(rt; false, "image");
-        return Ok(());
-    };
+    let image = kernel(alloc)?;
     let table = Table::of(alloc, &image)?;
-    let text = table.text();
-    assert!(rt; text.start.0 <= 0x8000_000c);
-    assert!(rt; 0x8000_000c < text.end.0);
     let mut chain = Chain::new();
     chain.push(Gpa(0x8000_0004));
     let looked = look(
