@@ -1,16 +1,20 @@
 -- What restoring a group does to the mask, and what a patch does to the log.
-use Rattle.std.proofs.Common.{◌≡◌, ℕ, ◌+◌, ◌-◌, ◌*◌, ◌/◌, ◌<◌, ◌≤◌, Bool, true, false, List, [], ◌∷◌, ◌++◌, length, arith, refl, ap, ◌∙◌, sym}
+use Rattle.std.proofs.Common.{◌≡◌, ℕ, ◌+◌, ◌-◌, ◌*◌, ◌/◌, ◌%◌, ◌<◌, ◌≤◌, Bool, true, false, List, [], ◌∷◌, ◌++◌, length, arith, refl, ◌∙◌, sym}
 use Rattle.std.proofs.lemmas.List.{get_or_past}
+use Rattle.std.proofs.lemmas.List.FromFn.{fill_by_all, get_or-map-range_with_len, length-map-range_with_len}
 use borrow.Author.Tests.{ltb-true, ltb-false}
-use Rattle.std.proofs.lemmas.List.Sums.{sum_by-set}
-use Rattle.std.specs.Prelude.{◌==◌, ◌||◌, ◌&&◌, nat_lt, if◌then◌else◌, slice_index, slice_index_or, slice_set, count_by, not}
+use Rattle.std.proofs.lemmas.List.Sums.{count_by-le-length, sum_by-set}
+use Rattle.std.specs.Prelude.{◌==◌, ◌||◌, ◌&&◌, nat_le, nat_lt, if◌then◌else◌, slice_index, slice_index_or, slice_set, count_by, not}
 use Rattle.std.proofs.lemmas.Grind.{common_steps}
 use Rattle.std.proofs.lemmas.Bool.Decides.{nat_tests}
 use Rattle.fc_numbers.specs.declared.places.Span.{Span}
-use Rattle.function_table.specs.Groups.{Groups, IsRangeOf, group_in, group_at, groups_count, half_of, is_between}
-use Rattle.function_table.proofs.GroupLemmas.{group-below}
+use Rattle.fc_numbers.specs.declared.places.TheConstants.{RAM_START}
+use Rattle.fc_numbers.specs.Spans.{AreRangesFrom, offset_in, place_in, size_of, text_size}
+use Rattle.fc_numbers.proofs.TextLaws.{offset_page, offset_place, size_pages}
+use Rattle.function_table.specs.Groups.{Groups, IsGroups, IsRangeOf, first_of, group_in, groups_count, half_of, in_text, is_between, range_of}
+use Rattle.function_table.proofs.GroupLemmas.{ends-within}
 use Rattle.chain_log.specs.declared.entry.LogEntry.{LogEntry}
-use Rattle.view_store.specs.Paged.{PagedView, masked, logged, patched, is_present, is_logged, AreMissed}
+use Rattle.view_store.specs.Paged.{PagedView, masked, logged, patched, is_present, is_logged, AreMissed, IsLawfulView, mask_of}
 
 -- halfwords past the end of text are 0
 half-past : (text : List ℕ) (n : ℕ) → length text ≤ 2 * n → half_of text n ≡ 0
@@ -25,26 +29,70 @@ same-either true false x y e = e
 same-either false true x y e = sym e
 same-either false false x y e = refl
 
+-- the first place of a group's range is of text, and its offset is even
+pub start-inside : (t : Groups) (g : ℕ) (s : Span) → IsRangeOf t g s → in_text t s.start ≡ true
+start-inside t g s range = range.inside s.start (grind (arith, nat_tests, range.some))
+
+start-even : (t : Groups) (g : ℕ) (s : Span) → IsRangeOf t g s → AreRangesFrom RAM_START t.text → offset_in t.text s.start % 2 ≡ 0
+start-even t g s range ranges = omega (arith, range.even_start, offset_page t.text RAM_START s.start ranges (start-inside t g s range))
+
+halves-between : (o start end from to n : ℕ) → o % 2 ≡ 0 → start % 2 ≡ 0 → end % 2 ≡ 0 → from ≡ o / 2 → to ≡ from + (end - start) / 2
+    → is_between from to n ≡ is_between o (o + (end - start)) (2 * n)
+halves-between o start end from to n even_o even_start even_end from_is to_is = grind (arith, nat_tests)
+
+-- the halfwords of a group's range lie within the pages
+pub range-within : (t : Groups) (g from size long : ℕ) (s : Span) → IsGroups t → g < groups_count t → s ≡ range_of t g → from ≡ offset_in t.text s.start / 2
+    → size ≡ (s.end - s.start) / 2 → text_size t.text ≡ 2 * long → from + size ≤ long
+range-within t g from size long s good within is from_is size_is pages =
+    let few : g ≤ length t.starts = omega arith in
+    let ends = ends-within (text_size t.text) g t.starts good.starts few in
+    let at : offset_in t.text (place_in t.text (first_of t g)) ≡ first_of t g = offset_place t.text RAM_START (first_of t g) good.text.ranges (omega (arith, ends.0, ends.1)) in
+    let all : offset_in t.text s.start + (s.end - s.start) ≤ text_size t.text = rw is (omega (arith, ends.0, ends.1, at)) in
+    omega (arith, all, from_is, size_is, pages)
+
 -- the halfwords between the ends of a group's range are those of the group
-pub restored-group : (t : Groups) (g from to n : ℕ) (s : Span) (text pages : List ℕ) → IsRangeOf t g s → t.size ≡ length text
-    → 2 * length pages ≡ length text → from ≡ (s.start - t.base) / 2 → to ≡ (s.end - t.base) / 2
+pub restored-group : (t : Groups) (g from to n : ℕ) (s : Span) (text pages : List ℕ) → IsRangeOf t g s → AreRangesFrom RAM_START t.text → text_size t.text ≡ length text
+    → 2 * length pages ≡ length text → from ≡ offset_in t.text s.start / 2 → to ≡ from + (s.end - s.start) / 2
     → (if is_between from to n then half_of text n else slice_index pages n) ≡ (if group_in t.starts (2 * n) == g then half_of text n else slice_index pages n)
-restored-group t g from to n s text pages range size long from_is to_is =
+restored-group t g from to n s text pages range ranges size long from_is to_is =
     elim (nat_lt (2 * n) (length text)) as (λ b. nat_lt (2 * n) (length text) ≡ b → (if is_between from to n then half_of text n else slice_index pages n) ≡ (if group_in t.starts (2 * n) == g then half_of text n else slice_index pages n)) [
       | true ↦ λ is. inside (ltb-true (2 * n) (length text) is)
       | false ↦ λ is. past (ltb-false (2 * n) (length text) is)
     ] refl where
       inside : 2 * n < length text → (if is_between from to n then half_of text n else slice_index pages n) ≡ (if group_in t.starts (2 * n) == g then half_of text n else slice_index pages n)
       inside within =
-          let place : t.base + 2 * n - t.base ≡ 2 * n = omega arith in
-          let each : is_between s.start s.end (t.base + 2 * n) ≡ (group_at t (t.base + 2 * n) == g) = range.each (t.base + 2 * n) (omega arith) (omega arith) in
-          let halves : is_between from to n ≡ is_between s.start s.end (t.base + 2 * n) = grind (arith, nat_tests) in
-          let same : is_between from to n ≡ (group_in t.starts (2 * n) == g) = halves ∙ each ∙ ap (λ x. group_in t.starts x == g) place in
+          let even : offset_in t.text s.start % 2 ≡ 0 = start-even t g s range ranges in
+          let each : is_between (offset_in t.text s.start) (offset_in t.text s.start + size_of s) (2 * n) ≡ (group_in t.starts (2 * n) == g) = range.bytes (2 * n) (omega (arith, within, size)) in
+          let halves : is_between from to n ≡ is_between (offset_in t.text s.start) (offset_in t.text s.start + size_of s) (2 * n) =
+          halves-between (offset_in t.text s.start) s.start s.end from to n even range.even_start range.even_end from_is to_is in
+          let same : is_between from to n ≡ (group_in t.starts (2 * n) == g) = halves ∙ each in
           rw same refl
 
       past : length text ≤ 2 * n → (if is_between from to n then half_of text n else slice_index pages n) ≡ (if group_in t.starts (2 * n) == g then half_of text n else slice_index pages n)
       past over = same-either (is_between from to n) (group_in t.starts (2 * n) == g) (half_of text n) (slice_index pages n)
           (half-past text n over ∙ sym (get_or_past pages n 0 (omega arith)))
+
+-- halfword n of the mask
+pub mask_at : (p : PagedView) (n : ℕ) → IsLawfulView p → slice_index (mask_of p) n ≡ masked p n
+mask_at p n good =
+    elim (nat_lt n (length p.text / 2)) as (λ b. nat_lt n (length p.text / 2) ≡ b → slice_index (mask_of p) n ≡ masked p n) [
+      | true ↦ λ is. get_or-map-range_with_len (masked p) 0 (length p.text / 2) n n 0 (ltb-true n (length p.text / 2) is) (omega arith)
+      | false ↦ λ is.
+          let over : length p.text / 2 ≤ n = ltb-false n (length p.text / 2) is in
+          let whole : text_size p.groups.text % 4096 ≡ 0 = size_pages p.groups.text RAM_START good.groups.text.ranges in
+          let none : half_of p.text n ≡ 0 = half-past p.text n (omega (arith, over, whole, good.size)) in
+          let zero : masked p n ≡ 0 = rw none (either-zero (is_present p.base p.log (group_in p.groups.starts (2 * n)))) in
+          let long : length (mask_of p) ≡ length p.text / 2 = length-map-range_with_len (masked p) 0 (length p.text / 2) in
+          get_or_past (mask_of p) n 0 (omega (arith, long, over)) ∙ sym zero
+    ] refl
+  where
+    either-zero : (b : Bool) → ◌≡◌ {A = ℕ} (if b then 0 else 0) 0
+    either-zero true = refl
+    either-zero false = refl
+
+-- pages that are the mask at each place are the mask
+pub mask_same : (p : PagedView) (pages : List ℕ) → IsLawfulView p → 2 * length pages ≡ length p.text → ((n : ℕ) → slice_index pages n ≡ masked p n) → pages ≡ mask_of p
+mask_same p pages good long each = fill_by_all (masked p) pages (length p.text / 2) 0 (omega (arith, long)) (λ k h. each k)
 
 -- one more group of the mask
 pub mask-kept : (kept : ℕ → Bool) (group g half new old : ℕ) → kept g ≡ true → new ≡ (if group == g then half else old)
@@ -59,9 +107,7 @@ pub mask-whole : (kept : ℕ → Bool) (t : Groups) (n half old : ℕ)
     → old ≡ (if kept (group_in t.starts (2 * n)) && nat_lt (group_in t.starts (2 * n)) (groups_count t) then half else 0)
     → old ≡ (if kept (group_in t.starts (2 * n)) then half else 0)
 mask-whole kept t n half old was =
-    let place : t.base + 2 * n - t.base ≡ 2 * n = omega arith in
-    let below : group_in t.starts (t.base + 2 * n - t.base) < groups_count t = group-below t (t.base + 2 * n) in
-    let below' : group_in t.starts (2 * n) < groups_count t = rw place at below in
+    let below : group_in t.starts (2 * n) < groups_count t = omega (arith, count_by-le-length (λ start. nat_le start (2 * n)) t.starts) in
     grind (arith, nat_tests)
 
 -- one more entry makes its group present, and no other

@@ -1,8 +1,9 @@
--- A view as contracts see it: its number, text and groups, the base and the log. Its pages follow from these: the mask.
+-- A view as contracts see it: its number, the bytes of text and its groups, the base and the log. Its pages follow from these: the mask.
 -- A group is present where it is in the base or logged, and the mask has the original halfwords of present groups and zeros.
-use Rattle.std.specs.Prelude.{◌≡◌, ℕ, ◌+◌, ◌*◌, ◌<◌, ◌==◌, ◌||◌, Bool, false, if◌then◌else◌, List, [], ◌∷◌, ◌++◌, length, slice_index_or}
-use Rattle.std.specs.List.{list_any}
+use Rattle.std.specs.Prelude.{◌≡◌, ℕ, ◌+◌, ◌*◌, ◌/◌, ◌<◌, ◌==◌, ◌||◌, Bool, false, if◌then◌else◌, List, [], ◌∷◌, ◌++◌, length, map, slice_index, slice_index_or}
+use Rattle.std.specs.List.{list_any, range_with_len}
 use Rattle.fc_numbers.specs.declared.pair.Pair.{Pair}
+use Rattle.fc_numbers.specs.Spans.{text_size}
 use Rattle.function_table.specs.Groups.{Groups, IsGroups, group_in, groups_count, half_of}
 use Rattle.chain_log.specs.declared.entry.LogEntry.{LogEntry}
 
@@ -24,6 +25,10 @@ is_present base log g = slice_index_or base g false || is_logged log g
 abbrev pub masked : PagedView → ℕ → ℕ
 masked p n = if is_present p.base p.log (group_in p.groups.starts (2 * n)) then half_of p.text n else 0
 
+-- the pages, halfword by halfword: the mask of the text
+abbrev pub mask_of : PagedView → List ℕ
+mask_of p = map (masked p) (range_with_len 0 (length p.text / 2))
+
 abbrev pub pair_of : PagedView → ℕ → Pair
 pair_of p n = record { at = n; halves = masked p n ∷ masked p (n + 1) ∷ [] }
 
@@ -41,6 +46,10 @@ AreMissed number base (e ∷ log) = (e.view ≡ number) × (e.group < length bas
 -- what holds of every view
 pub record IsLawfulView (p : PagedView) : Type 0 where
   pub groups : IsGroups p.groups
-  pub size : p.groups.size ≡ length p.text
+  pub size : text_size p.groups.text ≡ length p.text
   pub base : length p.base ≡ groups_count p.groups
   pub log : AreMissed p.number p.base p.log
+
+-- halfword n of the mask
+abbrev pub MaskIsMasked : Type 0
+MaskIsMasked = (p : PagedView) (n : ℕ) → IsLawfulView p → slice_index (mask_of p) n ≡ masked p n

@@ -1,10 +1,12 @@
 //! The mask of a text: the halfwords of some groups, and zeros.
 
-ghost use Rattle.std.specs.Prelude.{◌≡◌, ◌≤◌, ◌<◌, ◌-◌, ◌*◌, ◌/◌, ◌%◌, ◌^◌, ◌&&◌, ◌==◌, ℕ, false, length, nat_lt, slice_index, slice_index_or, if◌then◌else◌, IfOk};
+ghost use Rattle.std.specs.Prelude.{◌≡◌, ◌≤◌, ◌<◌, ◌-◌, ◌*◌, ◌/◌, ◌%◌, ◌^◌, ◌&&◌, ◌==◌, ℕ, true, false, length, nat_lt, slice_index, slice_index_or, if◌then◌else◌, IfOk};
+ghost use Rattle.fc_numbers.specs.Spans.{in_text, offset_in, text_size};
 ghost use Rattle.function_table.specs.Groups.{IsGroups, IsRangeOf, group_in, groups_count, half_of, is_between};
 
 use fc_numbers::memory::NoMemory;
-use fc_numbers::places::{Gpa, GroupNo};
+use fc_numbers::places::{Gpa, GroupNo, Span};
+use fc_numbers::spans::offset_of;
 use function_table::halves::half;
 use function_table::table::Table;
 use std::alloc::Global;
@@ -23,31 +25,37 @@ fn restore(pages: &mut Vec<u16>, text: &[u8], from: usize, to: usize)
     }
 }
 
-/// The number of the halfword at a place, counted from the start of text.
-fn half_number(start: Gpa, place: Gpa) -> usize
-    requires { start ≤ place }
-    ensures { result ≡ (place - start) / 2 }
+/// The number of the halfword at a place of text, counted through all ranges.
+fn half_number(text: &[Span], place: Gpa) -> usize
+    requires few { text_size text.now < 2 ^ 64 }
+    requires text { in_text text.now place ≡ true }
+    ensures { result ≡ offset_in text.now place / 2 }
 {
-    ((place.0 - start.0) / 2) as usize
+    match offset_of(text, place) {
+        Some(offset) => (offset / 2) as usize,
+        None => unreachable!(),
+    }
+}
+
+/// How many halfwords a span has.
+fn halves_in(span: Span) -> usize
+    ensures { result ≡ (span.end - span.start) / 2 }
+{
+    (span.end.0.saturating_sub(span.start.0) / 2) as usize
 }
 
 /// Restores the halfwords of group g.
 pub(crate) fn restore_group(pages: &mut Vec<u16>, text: &[u8], table: &Table, g: GroupNo)
     requires group { g < groups_count table.now }
-    requires size { table.now.size ≡ length text.now }
+    requires size { text_size table.now.text ≡ length text.now }
     requires long { 2 * length pages.old.items ≡ length text.now }
     ensures each { (n : ℕ) → slice_index pages.new.items n
         ≡ (if group_in table.now.starts (2 * n) == g then half_of text.now n else slice_index pages.old.items n) }
     ensures len { length pages.new.items ≡ length pages.old.items }
 {
-    let start = table.text().start;
     let span = table.range(g);
-    restore(
-        pages,
-        text,
-        half_number(start, span.start),
-        half_number(start, span.end),
-    );
+    let from = half_number(table.text(), span.start);
+    restore(pages, text, from, from + halves_in(span));
 }
 
 /// The halfwords of the marked groups, and zeros.
@@ -57,7 +65,7 @@ pub(crate) fn mask(
     table: &Table,
     kept: &[bool],
 ) -> Result<Vec<u16>, NoMemory>
-    requires size { table.now.size ≡ length text.now }
+    requires size { text_size table.now.text ≡ length text.now }
     requires marks { length kept.now ≡ groups_count table.now }
     ensures len { IfOk result (λ pages. 2 * length pages.items ≡ length text.now) }
     ensures each { IfOk result (λ pages. (n : ℕ) → slice_index pages.items n

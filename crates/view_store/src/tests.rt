@@ -1,56 +1,90 @@
-//! Views of two small kernels, worked out by hand.
+//! Views of a small kernel, worked out by hand.
 
-ghost use Rattle.std.specs.Prelude.{◌≡◌, ◌≤◌, ◌*◌, IfOk, length};
-ghost use Rattle.guest_image.specs.Accepted.{IsImage, IsStarts};
+ghost use Rattle.std.specs.Prelude.{◌≡◌, ◌<◌, ◌+◌, ◌^◌, [], ◌∷◌, IfOk, length};
+ghost use Rattle.guest_input.specs.Accepted.{IsImage};
 
 use crate::view::{Patched, View};
 use chain_log::entry::{Chain, LogEntry};
-use elf_read::parts::Function;
 use fc_numbers::memory::NoMemory;
-use fc_numbers::places::{Gpa, GroupNo, VcpuNo, ViewNo};
+use fc_numbers::places::{Gpa, GroupNo, Span, VcpuNo, ViewNo};
 use fc_numbers::shared::SharedBytes;
+use fc_numbers::spans::{Spans, text_size};
 use function_table::table::Table;
-use guest_image::image::Image;
+use guest_input::image::{Function, Image, Start};
+use guest_input::ranges::Ranges;
 use sqlite_items::Items;
 use std::alloc::Global;
 use std::test::Fail;
 
-/// The place at which these kernels begin.
+/// The place at which the kernel begins.
 const BASE: u64 = 0x8000_0000;
 
-/// A kernel of so many pages, which begins with this text and has functions at these offsets.
-fn kernel(alloc: Global, pages: u32, text: &[u8], offsets: &[u32]) -> Result<Image, NoMemory>
-    requires some { 1 ≤ pages }
-    requires most { pages ≤ 8 }
-    requires text { length text.now ≤ pages * 4096 }
-    requires starts { IsStarts offsets.now (pages * 4096) }
-    requires few { length offsets.now ≤ 16384 }
+/// The places of one page from a place on.
+fn page(start: u64) -> Span
+    requires { start + 4096 < 2 ^ 64 }
+    ensures { result ≡ record { start = start; end = start + 4096 } }
+{
+    Span {
+        start: Gpa(start),
+        end: Gpa(start + 4096),
+    }
+}
+
+/// Two ranges of a page each, a page apart.
+fn two_spans() -> Spans
+    ensures { result.items ≡ record { start = BASE; end = BASE + 4096 } ∷ record { start = BASE + 8192; end = BASE + 12288 } ∷ [] }
+{
+    let mut spans = Spans::new();
+    spans.push(page(BASE));
+    spans.push(page(BASE + 8192));
+    spans
+}
+
+/// A function at this start.
+fn function(alloc: Global, range: u8, offset: u32) -> Function
+    ensures { result.at ≡ record { range = range; offset = offset } }
+{
+    Function {
+        at: Start { range, offset },
+        name: Items::new(alloc),
+    }
+}
+
+/// Code of the first range: a function at 0, one at 12 that ends in the halfword 0x8067, and so is joined to the one at 26.
+const JOINED: [u8; 28] = [
+    0xef, 0x00, 0xc0, 0x00, 0xa1, 0x48, 0x73, 0x00, 0x00, 0x00, 0x01, 0x00, 0x85, 0x48, 0x13, 0x05,
+    0x10, 0x04, 0x73, 0x00, 0x00, 0x00, 0x82, 0x80, 0x67, 0x80, 0x82, 0x80,
+];
+
+/// The bytes of two pages: the first one begins with `JOINED` and ends in an open halfword.
+fn text(alloc: Global) -> Result<Vec<u8>, NoMemory>
+    ensures { IfOk result (λ bytes. length bytes.items ≡ 8192) }
+{
+    let mut bytes = vec![in alloc; 0u8; 8192]?;
+    bytes[..28].copy_from_slice(&JOINED);
+    bytes[4094] = 0x67;
+    bytes[4096] = 0x13;
+    Ok(bytes)
+}
+
+/// A kernel of two ranges of this text, with a function at the first byte of the second range.
+fn kernel(alloc: Global) -> Result<Image, NoMemory>
     ensures { IfOk result (λ image. IsImage image) }
 {
-    let mut padded = vec![in alloc; 0u8; pages as usize * 4096]?;
-    padded[..text.len()].copy_from_slice(text);
+    let bytes = text(alloc)?;
     let mut functions = Items::new(alloc);
-    for offset in offsets {
-        functions.push(Function {
-            offset: *offset,
-            name: Items::new(alloc),
-        })?;
-    }
+    functions.push(function(alloc, 0, 0))?;
+    functions.push(function(alloc, 0, 12))?;
+    functions.push(function(alloc, 0, 26))?;
+    functions.push(function(alloc, 1, 0))?;
     Ok(Image {
-        base: BASE,
         entry: BASE,
-        text: SharedBytes::from_vec(padded)?,
+        ranges: Ranges::of(two_spans(), SharedBytes::from_vec(bytes)?),
         parts: Items::new(alloc),
         functions,
         digest: [0; 32],
     })
 }
-
-/// A function at 0, one at 12 that ends in the halfword 0x8067, and so is joined to the one at 26.
-const JOINED: [u8; 28] = [
-    0xef, 0x00, 0xc0, 0x00, 0xa1, 0x48, 0x73, 0x00, 0x00, 0x00, 0x01, 0x00, 0x85, 0x48, 0x13, 0x05,
-    0x10, 0x04, 0x73, 0x00, 0x00, 0x00, 0x82, 0x80, 0x67, 0x80, 0x82, 0x80,
-];
 
 /// The entry of a group for view 1.
 fn entry_of(group: u16, at: u32) -> LogEntry
@@ -70,10 +104,11 @@ fn entry_of(group: u16, at: u32) -> LogEntry
 #[test]
 fn a_missing_group_is_restored_whole_and_once(rt: HostRuntime) -> Result<(), Fail> {
     let alloc = rt.alloc();
-    let image = kernel(alloc, 1, &JOINED, &[0, 12, 26])?;
+    let image = kernel(alloc)?;
     let table = Table::of(alloc, &image)?;
-    let base = vec![in alloc; true, false]?;
-    assert!(rt; table.groups() == 2);
+    let base = vec![in alloc; true, false, false]?;
+    assert!(rt; table.groups() == 3);
+    assert!(rt; text_size(table.text()) == 8192);
     let mut view = View::build(alloc, &image, &table, ViewNo(1), base)?;
     for (at, halves) in [
         (0, [0x00ef, 0x00c0]),
@@ -81,6 +116,7 @@ fn a_missing_group_is_restored_whole_and_once(rt: HostRuntime) -> Result<(), Fai
         (6, [0, 0]),
         (13, [0, 0]),
         (2047, [0, 0]),
+        (4095, [0, 0]),
     ] {
         assert!(rt; view.pair(at).halves == halves, "at {at}");
     }
@@ -92,12 +128,15 @@ fn a_missing_group_is_restored_whole_and_once(rt: HostRuntime) -> Result<(), Fai
         (0, [0x00ef, 0x00c0]),
         (5, [0x0001, 0x4885]),
         (12, [0x8067, 0x8082]),
-        (2047, [0, 0]),
+        (2047, [0x0067, 0]),
+        (2048, [0, 0]),
     ] {
         assert!(rt; view.pair(at).halves == halves, "at {at}");
     }
-    assert!(rt; view.present(GroupNo(1)));
-    assert!(rt; view.log().len() == 1);
+    assert!(rt; view.patch(entry_of(2, 10)) == Patched::Recovered);
+    assert!(rt; view.pair(2048).halves == [0x0013, 0]);
+    assert!(rt; view.present(GroupNo(2)));
+    assert!(rt; view.log().len() == 2);
     assert!(rt; view.log().first().is_some_and(|entry| entry.at == 7));
     Ok(())
 }

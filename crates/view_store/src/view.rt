@@ -1,9 +1,10 @@
 //! One view.
 
 ghost use Rattle.std.specs.Prelude.{◌≡◌, ◌≤◌, ◌<◌, ◌+◌, ◌*◌, ◌↔◌, [], ℕ, false, length, slice_index, slice_index_or, if◌then◌else◌, IfOk, IsTrue};
-ghost use Rattle.guest_image.specs.Accepted.{IsImage};
+ghost use Rattle.fc_numbers.specs.Spans.{text_size};
+ghost use Rattle.guest_input.specs.Text.{bytes_of};
 ghost use Rattle.function_table.specs.Groups.{groups_count};
-ghost use Rattle.view_store.specs.Paged.{IsLawfulView, is_present, masked, pair_of, patched};
+ghost use Rattle.view_store.specs.Paged.{IsLawfulView, is_present, mask_of, masked, pair_of, patched};
 
 use crate::pages::{mask, restore_group};
 use chain_log::entry::LogEntry;
@@ -12,7 +13,7 @@ use fc_numbers::pair::Pair;
 use fc_numbers::places::{GroupNo, ViewNo};
 use fc_numbers::shared::SharedBytes;
 use function_table::table::Table;
-use guest_image::image::Image;
+use guest_input::image::Image;
 use std::alloc::Global;
 use std::marker::Model;
 
@@ -25,7 +26,7 @@ pub enum Patched {
     WasPresent,
 }
 
-/// One view. In contracts it is its number, the text and its groups, the base and the log.
+/// One view. In contracts it is its number, the bytes of text and its groups, the base and the log.
 #[derive(Drop)]
 pub struct View {
     number: ViewNo,
@@ -57,11 +58,11 @@ impl View {
         view: ViewNo,
         base: Vec<bool>,
     ) -> Result<View, NoMemory>
-        requires table { table.now.size ≡ length image.now.text }
+        requires table { text_size table.now.text ≡ length (bytes_of image.now.ranges) }
         requires base { length base.items ≡ groups_count table.now }
-        ensures { IfOk result (λ v. v ≡ record { number = view; text = image.now.text; groups = table.now; base = base.items; log = [] }) }
+        ensures { IfOk result (λ v. v ≡ record { number = view; text = bytes_of image.now.ranges; groups = table.now; base = base.items; log = [] }) }
     {
-        let text = image.text.share()?;
+        let text = image.ranges.share_bytes()?;
         let table = table.share()?;
         let pages = mask(alloc, text.as_slice(), &table, base.as_slice())?;
         let present = Vec::from_slice(alloc, base.as_slice())?;
@@ -87,7 +88,7 @@ impl View {
 
     /// The halfwords number `at` and `at + 1` of the pages, 0 past the end of text.
     pub fn pair(&self, at: u32) -> Pair
-        requires { 2 * at < self.now.groups.size }
+        requires { 2 * at < text_size self.now.groups.text }
         ensures { result ≡ pair_of self.now at }
     {
         let first = at as usize;
@@ -103,9 +104,12 @@ impl View {
     }
 
     /// The mask, halfword by halfword.
+    #[tactic(auto, using(crate::proofs::PageLemmas::mask_same))]
     pub fn pages(&self) -> &[u16]
+        ensures value { result.now ≡ mask_of self.now }
         ensures long { 2 * length result.now ≡ length self.now.text }
         ensures each { (n : ℕ) → slice_index result.now n ≡ masked self.now n }
+        ensures lawful { IsLawfulView self.now }
     {
         &self.pages
     }
