@@ -3,8 +3,9 @@
 use Rattle.std.specs.Prelude.{ℕ, ◌+◌, ◌-◌, false, List, [], ◌∷◌, ◌++◌, codes, map, slice_index_or}
 use Rattle.std.specs.List.{flat_map}
 use Rattle.std.specs.Fmt.{decimal, digits}
-use Rattle.elf_read.specs.declared.parts.Function.{Function}
-use Rattle.guest_image.specs.declared.image.Image.{Image}
+use Rattle.guest_input.specs.declared.image.Function.{Function}
+use Rattle.guest_input.specs.declared.image.Image.{Image}
+use Rattle.guest_input.specs.Text.{spans_of, start_place}
 use Rattle.function_table.specs.Groups.{function_at, groups_of, range_of}
 use Rattle.chain_log.specs.declared.entry.LogEntry.{LogEntry}
 
@@ -13,7 +14,7 @@ abbrev pub hex : ℕ → List ℕ
 hex n = codes "0x" ++ digits 16 false n
 
 abbrev pub no_function : Function
-no_function = record { offset = 0; name = [] }
+no_function = record { at = record { range = 0; offset = 0 }; name = [] }
 
 -- the function that holds a place of text
 abbrev pub holder_of : Image → ℕ → Function
@@ -21,7 +22,7 @@ holder_of i place = slice_index_or i.functions (function_at (groups_of i) place)
 
 -- a place of text: the name of the function that holds it, and the distance from the function's start
 unfoldable pub place_text : Image → ℕ → List ℕ
-place_text i place = (holder_of i place).name ++ codes "+" ++ hex (place - (i.base + (holder_of i place).offset))
+place_text i place = (holder_of i place).name ++ codes "+" ++ hex (place - start_place (spans_of i.ranges) (holder_of i place).at)
 
 -- words, each behind a space
 abbrev pub spaced : List (List ℕ) → List ℕ

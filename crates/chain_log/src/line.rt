@@ -2,16 +2,17 @@
 
 ghost use Rattle.std.specs.Prelude.{◌≡◌, ◌≤◌, ◌<◌, ◌+◌, ◌-◌, [], ◌∷◌, ◌++◌, All, true, length, codes, IfOk, OnOk};
 ghost use Rattle.std.specs.Fmt.{decimal};
-ghost use Rattle.guest_image.specs.Accepted.{IsImage};
-ghost use Rattle.function_table.specs.Groups.{groups_count, groups_of, in_text};
+ghost use Rattle.guest_input.specs.Accepted.{IsImage};
+ghost use Rattle.guest_input.specs.Text.{start_place};
+ghost use Rattle.function_table.specs.Groups.{groups_count, groups_of, has_start, in_text};
 ghost use Rattle.chain_log.specs.Line.{chain_texts, hex, holder_of, line_of, place_text, spaced};
 
 use crate::entry::LogEntry;
-use elf_read::parts::Function;
 use fc_numbers::memory::NoMemory;
 use fc_numbers::places::{Gpa, VcpuNo};
+use fc_numbers::spans::place_of;
 use function_table::table::Table;
-use guest_image::image::Image;
+use guest_input::image::{Function, Image, Start};
 use std::alloc::Global;
 
 /// Appends a space and a word.
@@ -62,6 +63,17 @@ fn holder<'a>(image: &'a Image, table: &Table, at: Gpa) -> &'a Function
     &image.functions.as_slice()[n as usize]
 }
 
+/// The place of a start.
+fn start_place(table: &Table, at: Start) -> Gpa
+    requires { has_start table.now.text at ≡ true }
+    ensures { result ≡ start_place table.now.text at }
+{
+    let Some(offset) = table.flat(at) else {
+        unreachable!()
+    };
+    place_of(table.text(), offset as u64)
+}
+
 /// Appends a space and the place, as the function that holds it and the distance from the function's start.
 #[tactic(auto, unfolding(crate::specs::Line::place_text))]
 fn push_place(
@@ -77,7 +89,7 @@ fn push_place(
     ensures { OnOk result (line.new.items ≡ line.old.items ++ 32 ∷ place_text image.now at) }
 {
     let function = holder(image, table, at);
-    let offset = at.0 - (image.base + function.offset as u64);
+    let offset = at.0 - start_place(table, function.at).0;
     push_word(line, function.name.as_slice())?;
     push_distance(alloc, line, offset)
 }
