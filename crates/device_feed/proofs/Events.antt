@@ -2,8 +2,8 @@
 use Rattle.std.proofs.Common.{◌≡◌, ℕ, zero, suc, ◌<◌, ◌≤◌, Bool, true, false, List, [], ◌∷◌, length, get_or, take, ap, refl, arith}
 use Rattle.std.specs.List.{filter}
 use Rattle.std.specs.List.Sorted.{IsNonDecreasingBy}
-use Rattle.guest_image.specs.Accepted.{AreEvents}
-use Rattle.guest_image.specs.declared.setup.Event.{Event}
+use Rattle.guest_input.specs.Accepted.{AreEvents}
+use Rattle.guest_input.specs.declared.setup.Event.{Event}
 
 -- the clocks are not below the first bound
 pub above : (vcpus low : ℕ) (es : List Event) (j : ℕ) (d : Event) → AreEvents vcpus low es → j < length es → low ≤ (get_or es j d).at

@@ -1,10 +1,10 @@
 -- The list of keys says which keys are due.
 use Rattle.std.proofs.Common.{◌≡◌, ℕ, zero, suc, ◌+◌, ◌<◌, ◌≤◌, Bool, true, false, leb, None, List, [], ◌∷◌, length, get_or, drop, sym, refl, arith, slice_get}
 use Rattle.std.proofs.lemmas.List.{drop_more}
-use Rattle.guest_image.specs.Accepted.{AreEvents}
-use Rattle.guest_image.specs.declared.setup.Event.{Event}
-use Rattle.guest_image.specs.declared.setup.What.{What}
-use Rattle.guest_image.specs.declared.setup.What.TheVariants.{Key, Raise, Drop}
+use Rattle.guest_input.specs.Accepted.{AreEvents}
+use Rattle.guest_input.specs.declared.setup.Event.{Event}
+use Rattle.guest_input.specs.declared.setup.What.{What}
+use Rattle.guest_input.specs.declared.setup.What.TheVariants.{Key, Raise, Drop}
 use Rattle.device_feed.specs.declared.lists.DueKey.{DueKey}
 use Rattle.device_feed.specs.Devices.{due, keys_of, with_key}
 use Rattle.device_feed.specs.Lists.{due_keys_of, with_due_key, if_due}

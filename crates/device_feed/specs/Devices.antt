@@ -1,10 +1,10 @@
 -- The devices of a run as contracts see them, and the interrupt lines that they give each vCPU.
 -- An event is due where its clock is at most the clock. Lines by the bits of `sip` (privileged manual, "Supervisor Interrupt Registers").
 use Rattle.std.specs.Prelude.{ℕ, ◌+◌, ◌-◌, ◌^◌, ◌==◌, nat_le, nat_lt, Bool, true, false, if◌then◌else◌, Option, is_some, List, [], ◌∷◌, length, filter, replicate, slice_get, slice_index, slice_index_or, slice_set}
-use Rattle.guest_image.specs.declared.setup.Event.{Event}
-use Rattle.guest_image.specs.declared.setup.What.{What}
-use Rattle.guest_image.specs.declared.setup.What.TheVariants.{Key, Raise, Drop}
-use Rattle.guest_image.specs.declared.setup.Setup.{Setup}
+use Rattle.guest_input.specs.declared.setup.Event.{Event}
+use Rattle.guest_input.specs.declared.setup.What.{What}
+use Rattle.guest_input.specs.declared.setup.What.TheVariants.{Key, Raise, Drop}
+use Rattle.guest_input.specs.declared.setup.Setup.{Setup}
 
 -- the events of the setup, how many keys were taken, and the software bit and the timer value of each vCPU
 pub record Devices : Type 0 where

@@ -1,7 +1,7 @@
 -- How a feed keeps its devices: the events, the lines after each of them, and the keys in a list of their own.
 -- Both further lists are those of the events, so that lines are a binary search and a key is one look-up.
 use Rattle.std.specs.Prelude.{◌≡◌, ◌≤◌, length}
-use Rattle.guest_image.specs.Accepted.{AreEvents}
+use Rattle.guest_input.specs.Accepted.{AreEvents}
 use Rattle.device_feed.specs.declared.feed.Feed.TheInside.{Inside}
 use Rattle.device_feed.specs.Devices.{Devices}
 use Rattle.device_feed.specs.Lists.{levels_from, no_levels, due_keys_of}

@@ -1,9 +1,9 @@
 -- The two lists that a feed makes of its events: the external lines of all vCPUs after each event, and the keys.
 -- They are kept beside the events and say nothing more than these do.
 use Rattle.std.specs.Prelude.{ℕ, nat_le, if◌then◌else◌, Bool, true, false, Option, None, Some, List, [], ◌∷◌, replicate, slice_set}
-use Rattle.guest_image.specs.declared.setup.Event.{Event}
-use Rattle.guest_image.specs.declared.setup.What.{What}
-use Rattle.guest_image.specs.declared.setup.What.TheVariants.{Key, Raise, Drop}
+use Rattle.guest_input.specs.declared.setup.Event.{Event}
+use Rattle.guest_input.specs.declared.setup.What.{What}
+use Rattle.guest_input.specs.declared.setup.What.TheVariants.{Key, Raise, Drop}
 use Rattle.device_feed.specs.declared.lists.DueKey.{DueKey}
 
 abbrev pub no_levels : List Bool

@@ -1,7 +1,7 @@
 //! The devices of a run.
 
 ghost use Rattle.std.specs.Prelude.{◌≡◌, ◌<◌, IfOk, length};
-ghost use Rattle.guest_image.specs.Accepted.{IsSetup};
+ghost use Rattle.guest_input.specs.Accepted.{IsSetup};
 ghost use Rattle.device_feed.specs.Devices.{first_devices, lines_of, is_raised, soft_of, timer_of, with_soft, with_timer, due_key, with_key_taken};
 ghost use Rattle.device_feed.specs.Calls.{Called, called, answered, is_known, sent};
 
@@ -14,7 +14,7 @@ use crate::sbi::{
 use fc_numbers::memory::NoMemory;
 use fc_numbers::places::VcpuNo;
 use fc_numbers::regs::Regs;
-use guest_image::setup::{Event, Setup};
+use guest_input::setup::{Event, Setup};
 use std::alloc::Global;
 use std::marker::Model;
 

@@ -6,7 +6,7 @@
 //! - [`masks`]: the vCPUs that a mask of the SBI names.
 //!
 //! The lines of a vCPU are those of the events that are due by the clock, of its timer and of its software bit, and a
-//! call changes registers and devices exactly as its table says. Below stand `fc_numbers` and `guest_image`, whose
+//! call changes registers and devices exactly as its table says. Below stand `fc_numbers` and `guest_input`, whose
 //! setups name the events; the instructions stand above.
 #![tactic(auto)]
 

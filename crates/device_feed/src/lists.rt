@@ -2,12 +2,12 @@
 
 ghost use Rattle.std.specs.Prelude.{◌≡◌, ◌≤◌, ◌<◌, ◌+◌, IfOk, IsSome, length, take, slice_get};
 ghost use Rattle.std.specs.List.Sorted.{IsNonDecreasingBy};
-ghost use Rattle.guest_image.specs.declared.setup.Event.{Event};
+ghost use Rattle.guest_input.specs.declared.setup.Event.{Event};
 ghost use Rattle.device_feed.specs.Devices.{due};
 ghost use Rattle.device_feed.specs.Lists.{no_levels, levels_after, levels_from, due_keys_of, if_due};
 
 use fc_numbers::memory::NoMemory;
-use guest_image::setup::{Event, What};
+use guest_input::setup::{Event, What};
 use std::alloc::Global;
 
 /// The most vCPUs of a run.

@@ -1,14 +1,15 @@
 //! The devices on events and calls worked out by hand.
 
 ghost use Rattle.std.specs.Prelude.{◌≤◌, length};
-ghost use Rattle.guest_image.specs.Accepted.{AreEvents, IsSetup};
+ghost use Rattle.guest_input.specs.Accepted.{AreEvents, IsSetup};
 
 use crate::feed::Feed;
 use crate::sbi::Sbi;
+use fc_numbers::machine::GKind;
 use fc_numbers::memory::NoMemory;
 use fc_numbers::places::VcpuNo;
 use fc_numbers::regs::Regs;
-use guest_image::setup::{Event, Setup, What};
+use guest_input::setup::{Event, Setup, What};
 use sqlite_items::Items;
 use std::alloc::Global;
 use std::test::Fail;
@@ -27,6 +28,7 @@ fn two_vcpus(events: Vec<Event>) -> Setup
         name_at: 0,
         start: None,
         events: Items::from_vec(events),
+        gstage: GKind::Sv39x4,
     }
 }
 

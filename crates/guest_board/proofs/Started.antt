@@ -2,11 +2,11 @@
 use Rattle.std.proofs.Common.{◌≡◌, ℕ, zero, suc, ◌*◌, ◌/◌, ◌≤◌, List, [], ◌∷◌, length, replicate, refl, ◌∙◌, arith, length-append}
 use Rattle.std.specs.Prelude.{slice_index}
 use Rattle.fc_numbers.specs.declared.places.TheConstants.{PAGE}
-use Rattle.guest_image.specs.declared.image.Image.{Image}
+use Rattle.guest_input.specs.declared.image.Image.{Image}
 use Rattle.guest_ram.specs.Ram.{Ram, placed, zero_ram}
 use Rattle.guest_ram.proofs.Laws.{placed-stamps}
 use Rattle.guest_board.specs.Board.{left_total}
-use Rattle.guest_board.specs.First.{first_vcpus, first_ram, with_parts, text_of}
+use Rattle.guest_board.specs.First.{first_vcpus, first_ram, with_parts, text_of, text_parts}
 
 -- every vCPU has all its steps left
 pub all_left : (steps n : ℕ) → left_total steps (replicate n 0) ≡ n * steps
@@ -27,8 +27,9 @@ parts-stamps ram (p ∷ ps) = parts-stamps (placed ram p.0 p.1) ps ∙ placed-st
 pub no_stamp : (image : Image) (bytes k m : ℕ) → slice_index (first_ram image bytes).stamps k ≤ m
 unfolding first_ram
 no_stamp image bytes k m =
-    let same : (with_parts (placed (zero_ram bytes (text_of image)) image.base image.text) image.parts).stamps ≡ replicate (bytes / PAGE) 0 =
-    parts-stamps (placed (zero_ram bytes (text_of image)) image.base image.text) image.parts ∙ placed-stamps (zero_ram bytes (text_of image)) image.base image.text in
+    let text = with_parts (zero_ram bytes (text_of image)) (text_parts image.ranges) in
+    let same : (with_parts text image.parts).stamps ≡ replicate (bytes / PAGE) 0 =
+    parts-stamps text image.parts ∙ parts-stamps (zero_ram bytes (text_of image)) (text_parts image.ranges) in
     rw same (no_depth (bytes / PAGE) k m)
 
 pub few_vcpus : (entry n : ℕ) → length (first_vcpus entry n) ≡ n

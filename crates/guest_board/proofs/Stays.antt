@@ -1,5 +1,5 @@
 -- A step keeps kernel text, and each page counts one more store at most.
-use Rattle.std.proofs.Common.{ℕ, refl, sym, subst, arith, Option, Some, None, length}
+use Rattle.std.proofs.Common.{ℕ, refl, sym, subst, arith, Option, Some, None, List, length}
 use Rattle.fc_numbers.specs.declared.places.Span.{Span}
 use Rattle.guest_ram.specs.Ram.{Ram, IsLaid, IsLawful}
 use Rattle.rv_decode.specs.declared.Inst.{Inst}
@@ -36,7 +36,7 @@ made_keeps (Fetches got) clock s laid = fetch_keeps got clock s laid
 
 pub laid_kept : (old new : Ram) → KeepsText old new → IsLaid old → IsLaid new
 laid_kept old new k laid = record {
-  lawful = subst (λ (t : Span). IsLawful (length new.bytes) t) (sym k.text) (subst (λ n. IsLawful n old.text) (sym k.size) laid.lawful);
+  lawful = subst (λ (t : List Span). IsLawful (length new.bytes) t) (sym k.text) (subst (λ n. IsLawful n old.text) (sym k.size) laid.lawful);
   frames = rw (k.size, k.frames) laid.frames;
 }
 

@@ -86,20 +86,18 @@ pub next-is : (s : State) (i : ℕ) → next_of s i ≡ place_of (ready_at s i)
 unfolding next_of
 next-is s i = refl
 
-placed-by : (ram : Ram) (r : Ready) (o : Option ℕ) → ReadyIs ram r → place_of r ≡ o → IsPlacedIn ram.text.start ram.text.end o
+placed-by : (ram : Ram) (r : Ready) (o : Option ℕ) → ReadyIs ram r → place_of r ≡ o → IsPlacedIn ram.text o
 placed-by ram r None k e = tt
-placed-by ram r (Some p) k e =
-    let text : is_text ram p ≡ true = place_of-is ram r p k e in
-    (grind (arith, nat_tests, text), grind (arith, nat_tests, text))
+placed-by ram r (Some p) k e = place_of-is ram r p k e
 
 -- the place that a step fetches lies in text
-pub ready_placed : (s : Site) (clock : ℕ) → IsPlacedIn s.ram.text.start s.ram.text.end (place_of (ready_of s clock))
+pub ready_placed : (s : Site) (clock : ℕ) → IsPlacedIn s.ram.text (place_of (ready_of s clock))
 ready_placed s clock = placed-by s.ram (ready_of s clock) (place_of (ready_of s clock)) (site-ready s clock) refl
 
 busy : (steps : ℕ) (s : State) (i : ℕ) (w : Windows) (v : Verdict) → v ≡ verdict_of steps s i w → v ≢ Idle → may steps s i ≡ true
 unfolding verdict_of
 busy steps s i w v e b =
-    elim (may steps s i) as (λ m. v ≡ (if m then by_ready s.ram.text.start w (ready_at s i) else Idle) → m ≡ true) [
+    elim (may steps s i) as (λ m. v ≡ (if m then by_ready s.ram.text w (ready_at s i) else Idle) → m ≡ true) [
       | true ↦ λ h. refl
       | false ↦ λ h. absurd (b h)
     ] e

@@ -5,5 +5,6 @@ pub mod Board
 pub mod Seen
 pub mod SeenFacts
 pub mod First
+pub mod OpenFacts
 pub mod Housed
 pub mod Laws

@@ -1,8 +1,9 @@
 -- A step by what a lane holds of a view: the step, a need of halfwords, or a trap on a zero halfword.
 -- The rule: a fetch in text reads its halfwords from the pair that begins at its halfword number.
-use Rattle.std.specs.Prelude.{ℕ, ◌-◌, ◌/◌, ◌==◌, ◌&&◌, Bool, false, not, nat_eq, nat_lt, nat_le, if◌then◌else◌, Option, Some, None, slice_index}
+use Rattle.std.specs.Prelude.{ℕ, ◌/◌, ◌==◌, ◌&&◌, Bool, false, not, nat_eq, nat_lt, nat_le, if◌then◌else◌, Option, Some, None, List, slice_index}
 use Rattle.fc_numbers.specs.declared.pair.Pair.{Pair}
 use Rattle.fc_numbers.specs.declared.places.Span.{Span}
+use Rattle.fc_numbers.specs.Spans.{offset_in}
 use Rattle.chain_log.specs.declared.entry.Trapped.{Trapped}
 use Rattle.chain_log.specs.Chain.{chain_of}
 use Rattle.guest_board.specs.declared.fetch.Fetched.{Fetched}
@@ -16,9 +17,9 @@ use Rattle.guest_board.specs.declared.seen.Seen.TheVariants as seen
 use Rattle.guest_board.specs.Fetch.{text_place, with_halves}
 use Rattle.guest_board.specs.Board.{State, Seat, vcpu_of, may, ready_at, stepped_by, moved}
 
--- the number of the halfword of text at a place
-abbrev pub half_no : ℕ → ℕ → ℕ
-half_no start place = (place - start) / 2
+-- the number of the halfword of text at a place, counted through the ranges one after another
+abbrev pub half_no : List Span → ℕ → ℕ
+half_no text place = offset_in text place / 2
 
 abbrev pub is_cleared : Option Span → ℕ → Bool
 is_cleared None place = false
@@ -36,22 +37,22 @@ by_halves cleared got place pair =
     if nat_eq (first_of pair) 0 && not (is_cleared cleared place) then Zeroes place
     else Goes (Fetches (with_halves got (first_of pair) (second_of pair)))
 
-abbrev pub by_pair : ℕ → Option Span → Fetched → ℕ → Option Pair → Verdict
-by_pair start cleared got place None = Needs (half_no start place)
-by_pair start cleared got place (Some pair) =
-    if pair.at == half_no start place then by_halves cleared got place pair else Needs (half_no start place)
+abbrev pub by_pair : List Span → Option Span → Fetched → ℕ → Option Pair → Verdict
+by_pair text cleared got place None = Needs (half_no text place)
+by_pair text cleared got place (Some pair) =
+    if pair.at == half_no text place then by_halves cleared got place pair else Needs (half_no text place)
 
-abbrev pub by_place : ℕ → Windows → Fetched → Option ℕ → Verdict
-by_place start w got None = Goes (Fetches got)
-by_place start w got (Some place) = by_pair start w.cleared got place w.held
+abbrev pub by_place : List Span → Windows → Fetched → Option ℕ → Verdict
+by_place text w got None = Goes (Fetches got)
+by_place text w got (Some place) = by_pair text w.cleared got place w.held
 
-abbrev pub by_ready : ℕ → Windows → Ready → Verdict
-by_ready start w (Interrupt code) = Goes (Interrupt code)
-by_ready start w (Fetches got) = by_place start w got (text_place got)
+abbrev pub by_ready : List Span → Windows → Ready → Verdict
+by_ready text w (Interrupt code) = Goes (Interrupt code)
+by_ready text w (Fetches got) = by_place text w got (text_place got)
 
 -- what vCPU i does by these windows
 unfoldable pub verdict_of : ℕ → State → ℕ → Windows → Verdict
-verdict_of steps s i w = if may steps s i then by_ready s.ram.text.start w (ready_at s i) else Idle
+verdict_of steps s i w = if may steps s i then by_ready s.ram.text w (ready_at s i) else Idle
 
 -- the board after a step over windows
 unfoldable pub after_verdict : Seat → ℕ → Verdict → Seat

@@ -8,7 +8,7 @@ ghost use Rattle.rv_step.specs.Site.{Site};
 ghost use Rattle.rv_step.specs.Kept.{KeepsText};
 ghost use Rattle.guest_board.specs.Step.{made_by, ready_of, place_of};
 ghost use Rattle.guest_board.specs.Board.{State, may, nobody, vcpu_of, name_of, kept, broken, broken_below, broken_by, is_spent, end_after, said, deeper, counted, full_after, full_answer, left_total, moved, stepped_by, step_of, next_of, ready_at};
-ghost use Rattle.guest_image.specs.Accepted.{IsImage, IsSetupFor};
+ghost use Rattle.guest_input.specs.Accepted.{IsImage, IsSetupFor};
 ghost use Rattle.guest_board.specs.First.{first_seat};
 ghost use Rattle.guest_board.specs.Seen.{verdict_of, after_verdict, seen_by, trapped_at};
 
@@ -23,8 +23,9 @@ use fc_numbers::memory::NoMemory;
 use fc_numbers::name::Name;
 use fc_numbers::places::{Gpa, VcpuNo, ViewNo};
 use gstage::stage::{Flat, SecondStage};
-use guest_image::image::Image;
-use guest_image::setup::Setup;
+use guest_input::image::Image;
+use guest_input::ranges::copy_of;
+use guest_input::setup::Setup;
 use guest_ram::GuestRam;
 use rv_step::vcpu::Vcpu;
 use std::alloc::Global;
@@ -124,10 +125,10 @@ fn end_of(steps: u32, counts: &[u32], end: Option<End>) -> Option<End>
 }
 
 fn flat(ram: &GuestRam) -> Flat
-    ensures { IsFor result.text result.ram ram.now }
+    ensures { IsFor result.text.items result.ram ram.now }
 {
     Flat {
-        text: ram.text(),
+        text: copy_of(ram.text()),
         ram: ram.span(),
     }
 }
@@ -220,6 +221,7 @@ fn carry_at<S: SecondStage>(
     ensures left { let s : Site = record { vcpu = slice_index_or vcpus.old i nobody; ram = ram.old; devices = feed.old } in result ≡ (made_by ready clock s).left }
     ensures keeps { KeepsText ram.old ram.new }
 {
+    // Memory is laid out lawfully, so a step keeps its text; the call says so.
     let _laid = ram.text();
     carry_out(ready, &mut vcpus[i], ram, feed, stage, put, clock)
 }
@@ -416,7 +418,7 @@ impl Board {
 
     /// The stage of translation that compares a place with the text and the RAM of the board.
     pub fn flat(&self) -> Flat
-        ensures { IsFor result.text result.ram self.now.state.ram }
+        ensures { IsFor result.text.items result.ram self.now.state.ram }
     {
         flat(&self.ram)
     }
@@ -440,7 +442,7 @@ impl Board {
             stage,
             clock,
         );
-        judge(text.start, text.end, seen, ready)
+        judge(text, seen, ready)
     }
 
     /// What stands at a trap of vCPU i on the zero at a place of text: the clock, the place and the call chain.

@@ -87,7 +87,7 @@ fn splits(text: bool, first: Gpa, other: bool, second: Gpa) -> bool
 
 /// What the fetch of the vCPU's next instruction comes to.
 #[tactic(auto, unfolding(crate::specs::Fetch::fetched))]
-pub fn fetch<S: SecondStage>(v: &Vcpu, ram: &GuestRam, stage: &S) -> Fetched
+pub(crate) fn fetch<S: SecondStage>(v: &Vcpu, ram: &GuestRam, stage: &S) -> Fetched
     requires { IsFor (S.text stage.now) (S.ram stage.now) ram.now }
     ensures { result ≡ fetched v.now ram.now }
 {
@@ -127,7 +127,7 @@ pub fn fetch<S: SecondStage>(v: &Vcpu, ram: &GuestRam, stage: &S) -> Fetched
 }
 
 /// The place of the first halfword, where the instruction is reached and that place is in text.
-pub fn place_in_text(got: &Fetched) -> Option<Gpa>
+pub(crate) fn place_in_text(got: &Fetched) -> Option<Gpa>
     ensures { result ≡ text_place got.now }
 {
     match *got {
@@ -138,7 +138,7 @@ pub fn place_in_text(got: &Fetched) -> Option<Gpa>
 }
 
 /// The same fetch with other halfwords.
-pub fn replace_halves(got: Fetched, first: u16, second: u16) -> Fetched
+pub(crate) fn replace_halves(got: Fetched, first: u16, second: u16) -> Fetched
     ensures { result ≡ with_halves got first second }
 {
     match got {

@@ -1,21 +1,24 @@
 //! The parts of a board before the first step.
 
 ghost use Rattle.std.specs.Prelude.{◌≡◌, ◌+◌, ◌≤◌, IfOk, Some, None, length, replicate, vec_len};
-ghost use Rattle.guest_image.specs.Accepted.{IsImage, IsSetupFor, AllParts, PartsEndBy};
-ghost use Rattle.fc_numbers.specs.declared.places.TheConstants.{RAM_START};
-ghost use Rattle.guest_board.specs.First.{first_vcpus, first_vcpu, first_ram, with_parts, text_of};
+ghost use Rattle.guest_input.specs.Accepted.{IsImage, IsSetupFor, PartsEndBy};
+ghost use Rattle.guest_input.specs.TextIn.{cut};
+ghost use Rattle.guest_ram.specs.Ram.{placed};
+ghost use Rattle.fc_numbers.specs.Spans.{text_size};
+ghost use Rattle.fc_numbers.specs.declared.places.TheConstants.{RAM_MOST, RAM_START};
+ghost use Rattle.guest_board.specs.First.{first_vcpus, first_vcpu, first_ram, with_parts, text_parts};
+ghost use Rattle.guest_board.specs.OpenFacts.{LieBelow};
 
 use fc_numbers::machine::Mode;
 use fc_numbers::memory::NoMemory;
 use fc_numbers::name::Name;
 use fc_numbers::places::{Gpa, Span, Va, VcpuNo};
 use fc_numbers::regs::Regs;
-use guest_image::image::Image;
-use guest_image::setup::Setup;
+use guest_input::image::{Image, PartBytes};
+use guest_input::setup::Setup;
 use guest_ram::GuestRam;
 use rv_csr::CsrFile;
 use rv_step::vcpu::Vcpu;
-use sqlite_items::Items;
 use std::alloc::Global;
 
 fn start_vcpu(entry: u64, i: u8, reserved: Option<Gpa>) -> Vcpu
@@ -77,15 +80,46 @@ pub(crate) fn zeros(alloc: Global, count: u8) -> Result<Vec<u32>, NoMemory>
     Ok(vec![in alloc; 0u32; count as usize]?)
 }
 
-/// Places the data parts, one after another.
-fn place_parts(ram: &mut GuestRam, parts: &[(u64, Items<u8>)], base: u64, size: u64)
-    requires all { AllParts base size parts.now }
-    requires ends { PartsEndBy (RAM_START + length ram.old.bytes) parts.now }
-    ensures { ram.new ≡ with_parts ram.old parts.now }
+/// Places the ranges of text, whose bytes stand one after another.
+#[tactic(auto, using(crate::proofs::Parts::placed_size))]
+fn place_ranges(ram: &mut GuestRam, spans: &[Span], bytes: &[u8])
+    requires sizes { text_size spans.now ≡ length bytes.now }
+    requires inside { LieBelow (RAM_START + length ram.old.bytes) spans.now }
+    ensures after { ram.new ≡ with_parts ram.old (text_parts (cut spans.now bytes.now)) }
+    ensures size { length ram.new.bytes ≡ length ram.old.bytes }
 {
-    for part in parts {
-        let at = part.0;
-        ram.place(Gpa(at), part.1.as_slice());
+    match spans {
+        [] => {}
+        [span, rest @ ..] => {
+            let (here, behind) = bytes.split_at((span.end.0 - span.start.0) as usize);
+            ram.place(span.start, here);
+            place_ranges(ram, rest, behind);
+        }
+    }
+}
+
+/// Places the bytes of a data part.
+fn place_part(ram: &mut GuestRam, at: Gpa, bytes: &PartBytes)
+    requires low { RAM_START ≤ at }
+    requires high { at + length bytes.now ≤ RAM_START + length ram.old.bytes }
+    requires most { at + length bytes.now ≤ RAM_START + RAM_MOST }
+    ensures after { ram.new ≡ placed ram.old at bytes.now }
+    ensures size { length ram.new.bytes ≡ length ram.old.bytes }
+{
+    let written = bytes.written();
+    let count = written.len() as u64;
+    ram.place(at, written);
+    ram.place_zeros(Gpa(at.0 + count), bytes.len() - count);
+}
+
+/// Places the data parts of an image, one after another.
+fn place_parts(ram: &mut GuestRam, image: &Image)
+    requires image { IsImage image.now }
+    requires ends { PartsEndBy (RAM_START + length ram.old.bytes) image.now.parts }
+    ensures { ram.new ≡ with_parts ram.old image.now.parts }
+{
+    for part in image.parts.as_slice() {
+        place_part(ram, Gpa(part.0), &part.1);
     }
 }
 
@@ -96,13 +130,8 @@ pub(crate) fn start_ram(alloc: Global, image: &Image, setup: &Setup) -> Result<G
     requires setup { IsSetupFor image.now setup.now }
     ensures { IfOk result (λ ram. ram ≡ first_ram image.now setup.now.ram) }
 {
-    let size = image.text.len() as u64;
-    let text = Span {
-        start: Gpa(image.base),
-        end: Gpa(image.base + size),
-    };
-    let mut ram = GuestRam::new(alloc, setup.ram, text)?;
-    ram.place(Gpa(image.base), image.text.as_slice());
-    place_parts(&mut ram, image.parts.as_slice(), image.base, size);
+    let mut ram = GuestRam::new(alloc, setup.ram, image.ranges.copy_spans())?;
+    place_ranges(&mut ram, image.ranges.spans(), image.ranges.bytes());
+    place_parts(&mut ram, image);
     Ok(ram)
 }

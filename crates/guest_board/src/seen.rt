@@ -1,6 +1,9 @@
 //! What a vCPU does by the halfwords that its lane holds of a view.
 
-ghost use Rattle.std.specs.Prelude.{◌≡◌, ◌+◌, ◌-◌, ◌<◌, ◌≤◌, ◌^◌};
+ghost use Rattle.std.specs.Prelude.{◌≡◌, ◌≤◌, true};
+ghost use Rattle.fc_numbers.specs.Spans.{AreRangesFrom, in_text, text_size};
+ghost use Rattle.fc_numbers.specs.declared.places.TheConstants.{RAM_START};
+ghost use Rattle.fc_numbers.specs.declared.spans.TheConstants.{TEXT_MOST};
 ghost use Rattle.guest_board.specs.Fetch.{text_place, with_halves};
 ghost use Rattle.guest_board.specs.Step.{place_of};
 ghost use Rattle.guest_board.specs.SeenFacts.{IsPlacedIn};
@@ -11,6 +14,7 @@ use crate::step::Ready;
 use chain_log::entry::Trapped;
 use fc_numbers::pair::Pair;
 use fc_numbers::places::{Gpa, Span, ViewNo};
+use fc_numbers::spans::offset_of;
 
 /// What a lane holds: its view, the pair that it took of the view's pages, and the range whose zeros are the guest's.
 #[derive(Debug, Clone, Copy, PartialEq, Eq)]
@@ -58,12 +62,27 @@ fn read_halves(seen: &Windows, got: Fetched, place: Gpa, pair: Pair) -> Verdict
     }
 }
 
-fn read_pair(start: Gpa, seen: &Windows, got: Fetched, place: Gpa) -> Verdict
-    requires low { start ≤ place }
-    requires high { place - start < 2 ^ 32 }
-    ensures { result ≡ by_pair start seen.now.cleared got place seen.now.held }
+/// The number of the halfword of text at a place.
+#[tactic(auto, using(crate::proofs::Parts::few_halves))]
+fn half_no(text: &[Span], place: Gpa) -> u32
+    requires ranges { AreRangesFrom RAM_START text.now }
+    requires few { text_size text.now ≤ TEXT_MOST }
+    requires inside { in_text text.now place ≡ true }
+    ensures { result ≡ half_no text.now place }
 {
-    let n = ((place.0 - start.0) / 2) as u32;
+    match offset_of(text, place) {
+        Some(offset) => (offset / 2) as u32,
+        None => unreachable!(),
+    }
+}
+
+fn read_pair(text: &[Span], seen: &Windows, got: Fetched, place: Gpa) -> Verdict
+    requires ranges { AreRangesFrom RAM_START text.now }
+    requires few { text_size text.now ≤ TEXT_MOST }
+    requires inside { in_text text.now place ≡ true }
+    ensures { result ≡ by_pair text.now seen.now.cleared got place seen.now.held }
+{
+    let n = half_no(text, place);
     match seen.held {
         None => Verdict::Needs(n),
         Some(pair) => if pair.at == n {
@@ -75,16 +94,17 @@ fn read_pair(start: Gpa, seen: &Windows, got: Fetched, place: Gpa) -> Verdict
 }
 
 /// What a vCPU does whose next step begins so.
-pub fn judge(start: Gpa, end: Gpa, seen: &Windows, ready: Ready) -> Verdict
-    requires text { end ≤ start + 2 ^ 26 }
-    requires inside { IsPlacedIn start end (place_of ready) }
-    ensures { result ≡ by_ready start seen.now ready }
+pub(crate) fn judge(text: &[Span], seen: &Windows, ready: Ready) -> Verdict
+    requires ranges { AreRangesFrom RAM_START text.now }
+    requires few { text_size text.now ≤ TEXT_MOST }
+    requires inside { IsPlacedIn text.now (place_of ready) }
+    ensures { result ≡ by_ready text.now seen.now ready }
 {
     match ready {
         Ready::Interrupt(code) => Verdict::Goes(Ready::Interrupt(code)),
         Ready::Fetches(got) => match place_in_text(&got) {
             None => Verdict::Goes(Ready::Fetches(got)),
-            Some(place) => read_pair(start, seen, got, place),
+            Some(place) => read_pair(text, seen, got, place),
         },
     }
 }

@@ -185,7 +185,7 @@ fn carry_out_fetch<S: SecondStage>(
 
 /// The rest of a step that begins so.
 #[tactic(auto, unfolding(crate::specs::Step::made_by))]
-pub fn carry_out<S: SecondStage>(
+pub(crate) fn carry_out<S: SecondStage>(
     ready: Ready,
     v: &mut Vcpu,
     ram: &mut GuestRam,
@@ -212,7 +212,13 @@ pub fn carry_out<S: SecondStage>(
 
 /// What the vCPU's next step begins with.
 #[tactic(auto, unfolding(crate::specs::Step::ready_of))]
-pub fn begin<S: SecondStage>(v: &Vcpu, ram: &GuestRam, feed: &Feed, stage: &S, clock: u64) -> Ready
+pub(crate) fn begin<S: SecondStage>(
+    v: &Vcpu,
+    ram: &GuestRam,
+    feed: &Feed,
+    stage: &S,
+    clock: u64,
+) -> Ready
     requires { IsFor (S.text stage.now) (S.ram stage.now) ram.now }
     ensures { let s : Site = record { vcpu = v.now; ram = ram.now; devices = feed.now } in result ≡ ready_of s clock }
 {
@@ -223,7 +229,7 @@ pub fn begin<S: SecondStage>(v: &Vcpu, ram: &GuestRam, feed: &Feed, stage: &S, c
 }
 
 /// The place in text that a step fetches which begins so.
-pub fn place_fetched(ready: &Ready) -> Option<Gpa>
+pub(crate) fn place_fetched(ready: &Ready) -> Option<Gpa>
     ensures { result ≡ place_of ready.now }
 {
     match ready {

@@ -1,21 +1,132 @@
 //! A kernel of two functions, stepped by hand.
 
+ghost use Rattle.std.specs.Prelude.{◌≡◌, ◌≤◌, ◌+◌, [], ◌∷◌, IfOk};
+ghost use Rattle.guest_input.specs.Accepted.{IsImage, IsSetupFor};
+ghost use Rattle.fc_numbers.specs.Spans.{IsTextBelow};
+ghost use Rattle.guest_input.specs.Text.{spans_of};
+
 use crate::board::{Board, Full};
 use crate::seen::{Seen, Windows};
-use fc_numbers::machine::End;
+use fc_numbers::machine::{End, GKind, Stop, Width};
+use fc_numbers::memory::NoMemory;
 use fc_numbers::pair::Pair;
 use fc_numbers::places::{Gpa, Span, VcpuNo, ViewNo};
-use guest_image::image_file::read_image;
-use guest_image::setup_file::read_setup;
+use fc_numbers::shared::SharedBytes;
+use fc_numbers::spans::Spans;
+use guest_input::image::{Function, Image, Start};
+use guest_input::ranges::Ranges;
+use guest_input::setup::Setup;
+use sqlite_items::Items;
+use std::alloc::Global;
 use std::test::Fail;
 
+/// The place of the text of these kernels.
+const BASE: u64 = 0x8000_0000;
+
 /// At 0, `main`: jal put; li a7, 8; ecall. At 12, `put`: li a7, 1; li a0, 'A'; ecall; ret.
-const IMAGE: &str =
-    "{\"base\":2147483648,\"entry\":2147483648,\"text\":\"ef00c000a148730000000100854813051004730000008280\",\"functions\":[[2147483660,\"put\"],[2147483648,\"main\"]]}";
+const PRINTS: [u8; 24] = [
+    0xef, 0x00, 0xc0, 0x00, 0xa1, 0x48, 0x73, 0x00, 0x00, 0x00, 0x01, 0x00, 0x85, 0x48, 0x13, 0x05,
+    0x10, 0x04, 0x73, 0x00, 0x00, 0x00, 0x82, 0x80,
+];
 
-const TWO: &str = "{\"vcpus\":2,\"ram\":65536,\"steps\":20}";
+/// One page of text.
+fn one_page() -> Spans
+    ensures { result.items ≡ record { start = BASE; end = BASE + 4096 } ∷ [] }
+{
+    let mut spans = Spans::new();
+    spans.push(Span {
+        start: Gpa(BASE),
+        end: Gpa(BASE + 4096),
+    });
+    spans
+}
 
-const ONE: &str = "{\"vcpus\":1,\"ram\":65536,\"steps\":2}";
+/// Two ranges of a page each, a page apart.
+fn two_pages() -> Spans
+    ensures { result.items ≡ record { start = BASE; end = BASE + 4096 } ∷ record { start = BASE + 8192; end = BASE + 12288 } ∷ [] }
+{
+    let mut spans = one_page();
+    spans.push(Span {
+        start: Gpa(BASE + 8192),
+        end: Gpa(BASE + 12288),
+    });
+    spans
+}
+
+fn function(alloc: Global, range: u8, offset: u32) -> Function
+    ensures { result.at ≡ record { range = range; offset = offset } }
+{
+    Function {
+        at: Start { range, offset },
+        name: Items::new(alloc),
+    }
+}
+
+/// The kernel of `main` and `put`.
+fn kernel(alloc: Global) -> Result<Image, NoMemory>
+    ensures image { IfOk result (λ image. IsImage image) }
+    ensures spans { IfOk result (λ image. spans_of image.ranges ≡ record { start = BASE; end = BASE + 4096 } ∷ []) }
+    ensures parts { IfOk result (λ image. image.parts ≡ []) }
+{
+    let mut bytes = vec![in alloc; 0u8; 4096]?;
+    bytes[..24].copy_from_slice(&PRINTS);
+    let mut functions = Items::new(alloc);
+    functions.push(function(alloc, 0, 0))?;
+    functions.push(function(alloc, 0, 12))?;
+    Ok(Image {
+        entry: BASE,
+        ranges: Ranges::of(one_page(), SharedBytes::from_vec(bytes)?),
+        parts: Items::new(alloc),
+        functions,
+        digest: [0; 32],
+    })
+}
+
+/// A kernel of two ranges. The first jumps to its last halfword, which begins a wide instruction; the second begins
+/// with a halfword. A data part of two bytes and six zeros stands behind them.
+fn split_kernel(alloc: Global) -> Result<Image, NoMemory>
+    ensures image { IfOk result (λ image. IsImage image) }
+    ensures spans { IfOk result (λ image. spans_of image.ranges ≡ record { start = BASE; end = BASE + 4096 } ∷ record { start = BASE + 8192; end = BASE + 12288 } ∷ []) }
+    ensures parts { IfOk result (λ image. image.parts ≡ []) }
+{
+    let mut bytes = vec![in alloc; 0u8; 8192]?;
+    bytes[..4].copy_from_slice(&[0x6f, 0x00, 0xf0, 0x7f]);
+    bytes[4094] = 0x97;
+    bytes[4095] = 0x02;
+    bytes[4096] = 0x01;
+    let mut functions = Items::new(alloc);
+    functions.push(function(alloc, 0, 0))?;
+    functions.push(function(alloc, 1, 0))?;
+    Ok(Image {
+        entry: BASE,
+        ranges: Ranges::of(two_pages(), SharedBytes::from_vec(bytes)?),
+        parts: Items::new(alloc),
+        functions,
+        digest: [0; 32],
+    })
+}
+
+/// A setup of so many vCPUs, each with so many steps.
+fn setup(alloc: Global, vcpus: u8, steps: u32, image: &Image) -> Setup
+    requires some { 1 ≤ vcpus }
+    requires few { vcpus ≤ 8 }
+    requires steps { 1 ≤ steps }
+    requires short { steps ≤ 100 }
+    requires text { IsTextBelow 2147549184 (spans_of image.now.ranges) }
+    requires parts { image.now.parts ≡ [] }
+    ensures { IsSetupFor image.now result }
+{
+    Setup {
+        vcpus,
+        ram: 0x1_0000,
+        steps,
+        hook: None,
+        name_at: 0,
+        start: None,
+        events: Items::new(alloc),
+        gstage: GKind::Sv39x4,
+    }
+}
 
 /// Where the seven instructions of a vCPU are fetched.
 const PLACES: [u64; 7] = [
@@ -31,14 +142,8 @@ const PLACES: [u64; 7] = [
 #[test]
 fn two_vcpus_step_by_turns(rt: HostRuntime) -> Result<(), Fail> {
     let alloc = rt.alloc();
-    let Ok(image) = read_image(alloc, IMAGE.as_bytes()) else {
-        assert!(rt; false, "image");
-        return Ok(());
-    };
-    let Ok(setup) = read_setup(alloc, TWO.as_bytes(), &image) else {
-        assert!(rt; false, "setup");
-        return Ok(());
-    };
+    let image = kernel(alloc)?;
+    let setup = setup(alloc, 2, 20, &image);
     let mut board = Board::open(alloc, &image, &setup)?;
     assert!(rt; board.vcpus() == 2);
     for (k, place) in PLACES.iter().enumerate() {
@@ -79,14 +184,8 @@ fn two_vcpus_step_by_turns(rt: HostRuntime) -> Result<(), Fail> {
 #[test]
 fn a_step_over_windows_needs_traps_and_goes(rt: HostRuntime) -> Result<(), Fail> {
     let alloc = rt.alloc();
-    let Ok(image) = read_image(alloc, IMAGE.as_bytes()) else {
-        assert!(rt; false, "image");
-        return Ok(());
-    };
-    let Ok(setup) = read_setup(alloc, ONE.as_bytes(), &image) else {
-        assert!(rt; false, "setup");
-        return Ok(());
-    };
+    let image = kernel(alloc)?;
+    let setup = setup(alloc, 1, 2, &image);
     let mut board = Board::open(alloc, &image, &setup)?;
     let mut seen = Windows {
         view: ViewNo(1),
@@ -135,5 +234,20 @@ fn a_step_over_windows_needs_traps_and_goes(rt: HostRuntime) -> Result<(), Fail>
     assert!(rt; board.end() == Some(End::Spent));
     let stage = board.flat();
     assert!(rt; matches!(board.step_seen(VcpuNo(0), &seen, &stage), Seen::Over));
+    Ok(())
+}
+
+#[test]
+fn wide_instruction_ends_in_its_range(rt: HostRuntime) -> Result<(), Fail> {
+    let alloc = rt.alloc();
+    let image = split_kernel(alloc)?;
+    let setup = setup(alloc, 1, 20, &image);
+    let mut board = Board::open(alloc, &image, &setup)?;
+    assert!(rt; board.ram().in_text(Gpa(0x8000_2000)));
+    assert!(rt; board.ram().load(Gpa(0x8000_2000), Width::Word) == Ok(1));
+    assert!(rt; matches!(board.step_full(VcpuNo(0)), Full::Stepped(Some(Gpa(0x8000_0000)))));
+    assert!(rt; matches!(board.step_full(VcpuNo(0)), Full::Stepped(None)));
+    assert!(rt; board.end() == Some(End::Stopped(Stop::KernelOutsideText)));
+    assert!(rt; board.clock() == 2);
     Ok(())
 }

@@ -1,8 +1,13 @@
 -- A place that an address leads to is in RAM and has the address's low 12 bits.
-use Rattle.std.proofs.Common.{◌≡◌, ℕ, zero, suc, ◌+◌, ◌*◌, ◌/◌, ◌%◌, ◌^◌, ◌∙◌, ◌==◌, Bool, true, false, not, if◌then◌else◌, arith, ap, refl, add_comm}
+use Rattle.std.proofs.Common.{◌≡◌, ℕ, zero, suc, ◌+◌, ◌*◌, ◌/◌, ◌%◌, ◌^◌, ◌∙◌, ◌==◌, Bool, true, false, not, if◌then◌else◌, List, arith, ap, refl, subst, add_comm}
 use Rattle.std.proofs.lemmas.Nat.{mod-pow-add}
 use Rattle.std.proofs.lemmas.Bool.Decides.{nat_tests}
 use Rattle.fc_numbers.specs.declared.machine.Access.{Access}
+use Rattle.fc_numbers.specs.declared.places.Span.{Span}
+use Rattle.fc_numbers.specs.Spans.{in_text}
+use Rattle.fc_numbers.proofs.TextLaws.{places_above}
+use Rattle.gstage.specs.declared.stage.Placed.TheVariants as placed_in
+use Rattle.gstage.specs.Stage.{IsFor, in_span, placed}
 use Rattle.guest_ram.specs.Ram.{Ram, is_inside, is_text, value, IsLaid}
 use Rattle.sv39_walk.specs.declared.Asked.{Asked}
 use Rattle.sv39_walk.specs.declared.Walked.{Walked}
@@ -56,8 +61,24 @@ walked_keeps_low ram satp q =
     choice_keeps_low q.va (satp_mode satp == 0) (At q.va) by_table refl
     (choice_keeps_low q.va (is_canonical q.va) (walk_from ram q 3 (root_of satp)) PageFault (walk_from_keeps_low ram q 3 (root_of satp)) tt)
 
-text_is_inside : (ram : Ram) (p : ℕ) → IsLaid ram → is_text ram p ≡ true → is_inside ram p ≡ true
-text_is_inside ram p laid text = grind (arith, nat_tests, laid.lawful.low, laid.lawful.high)
+pub text_is_inside : (ram : Ram) (p : ℕ) → IsLaid ram → is_text ram p ≡ true → is_inside ram p ≡ true
+text_is_inside ram p laid text =
+    let low = places_above ram.text 2147483648 p laid.lawful.text.ranges text in
+    let high = laid.lawful.text.high p text in
+    grind (arith, nat_tests, low, high)
+
+placed_text : (text : List Span) (span : Span) (p : ℕ) (b : Bool) → in_text text p ≡ b → placed_in.Text ≡ (if b then placed_in.Text else if in_span span p then placed_in.Ram else placed_in.Outside) → b ≡ true
+placed_text text span p true inside is = refl
+placed_text text span p false outside is =
+    elim (in_span span p) as (λ b. placed_in.Text ≡ (if b then placed_in.Ram else placed_in.Outside) → false ≡ true) [
+      | true ↦ λ h. absurd (cc)
+      | false ↦ λ h. absurd (cc)
+    ] is
+
+-- a place that a stage of this memory finds in text is in the text of the memory
+pub text_found : {text : List Span} {span : Span} (ram : Ram) (p : ℕ) → IsFor text span ram → placed_in.Text ≡ placed text span p → is_text ram p ≡ true
+text_found {text = text} {span = span} ram p stage is =
+    subst (λ (ss : List Span). in_text ss p ≡ true) stage.same_text (placed_text text span p (in_text text p) refl is)
 
 choice_is_placed : (ram : Ram) (va p : ℕ) (text inside : Bool) → IsLaid ram → is_text ram p ≡ text → is_inside ram p ≡ inside → p % 4096 ≡ va % 4096 → IsPlaced ram va (if text then place.Text p else if inside then place.Ram p else place.AccessFault)
 choice_is_placed ram va p true inside laid t i low = (text_is_inside ram p laid t, t, low)

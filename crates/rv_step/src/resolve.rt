@@ -44,7 +44,8 @@ pub fn resolve<S: SecondStage>(
     ensures value { result ≡ resolved vcpu.now ram.now access va }
     ensures placed { IsPlaced ram.now va result }
 {
-    let _text = ram.text();
+    // Every memory is laid out so that its text lies in it; the call says so.
+    let _laid = ram.text();
     let csr = &vcpu.csr;
     let sum = has_bit(csr.sstatus, 18);
     let mxr = has_bit(csr.sstatus, 19);

@@ -1,16 +1,17 @@
 //! Instructions on values worked out by hand, over memory of two pages of which the first is kernel text.
 
-ghost use Rattle.std.specs.Prelude.{◌≡◌};
+ghost use Rattle.std.specs.Prelude.{◌≡◌, [], ◌∷◌};
 
 use crate::execute::execute;
 use crate::vcpu::{Effect, Vcpu};
 use device_feed::feed::Feed;
-use fc_numbers::machine::{Access, End, Mode, Stop, Width};
+use fc_numbers::machine::{Access, End, GKind, Mode, Stop, Width};
 use fc_numbers::memory::NoMemory;
 use fc_numbers::places::{Gpa, PAGE, RAM_START, Span, Va, VcpuNo};
 use fc_numbers::regs::Regs;
+use fc_numbers::spans::Spans;
 use gstage::stage::Flat;
-use guest_image::setup::Setup;
+use guest_input::setup::Setup;
 use guest_ram::GuestRam;
 use rv_csr::CsrFile;
 use rv_decode::Inst;
@@ -42,17 +43,25 @@ fn vcpu(mode: Mode, x5: u64, x6: u64) -> Vcpu {
     }
 }
 
+/// The text: the first page.
+fn first_page() -> Spans
+    ensures { result.items ≡ record { start = TEXT; end = DATA } ∷ [] }
+{
+    let mut text = Spans::new();
+    text.push(Span {
+        start: Gpa(TEXT),
+        end: Gpa(DATA),
+    });
+    text
+}
+
 /// What the instruction comes to, the first eight bytes of the second page after it, and the byte for the console.
 fn executed(
     alloc: Global,
     inst: &Inst,
     vcpu: &mut Vcpu,
 ) -> Result<(Effect, u64, Option<u8>), NoMemory> {
-    let text = Span {
-        start: Gpa(TEXT),
-        end: Gpa(DATA),
-    };
-    let mut ram = GuestRam::new(alloc, 2 * PAGE, text)?;
+    let mut ram = GuestRam::new(alloc, 2 * PAGE, first_page())?;
     ram.place(Gpa(TEXT), &OLD.to_le_bytes());
     ram.place(Gpa(DATA), &OLD.to_le_bytes());
     let setup = Setup {
@@ -63,10 +72,11 @@ fn executed(
         name_at: 0,
         start: None,
         events: Items::new(alloc),
+        gstage: GKind::Sv39x4,
     };
     let mut feed = Feed::open(alloc, &setup)?;
     let stage = Flat {
-        text: ram.text(),
+        text: first_page(),
         ram: ram.span(),
     };
     let mut put = None;

@@ -1,6 +1,6 @@
 use Rattle.std.proofs.Common.{leb, arith, rules}
 use Rattle.std.proofs.lemmas.List.Sorted.{IsPartitionPoint-from_clause, IsPartitionedBy-leb}
-use Rattle.guest_image.specs.declared.setup.Event.{Event}
+use Rattle.guest_input.specs.declared.setup.Event.{Event}
 use Rattle.device_feed.proofs.Events.{filter-take}
 use Rattle.device_feed.proofs.lists.due_count.Goals as goal
 

@@ -1,23 +1,18 @@
-use Rattle.std.proofs.Common.{sym, subst, arith, ap}
+use Rattle.std.proofs.Common.{List, sym, subst}
+use Rattle.fc_numbers.specs.Spans.{AreRangesFrom}
 use Rattle.fc_numbers.specs.declared.places.Span.{Span}
+use Rattle.fc_numbers.specs.declared.places.TheConstants.{RAM_START}
 use Rattle.guest_board.specs.declared.step.Ready.{Ready}
 use Rattle.guest_board.specs.Step.{place_of}
 use Rattle.guest_board.specs.SeenFacts.{IsPlacedIn}
 use Rattle.guest_board.proofs.Steps.{ready_placed}
 use Rattle.guest_board.proofs.board.Board.verdict.Goals as goal
 
-pub judge-requires-clause-text : goal.judge-requires-clause-text
-judge-requires-clause-text g c =
-    omega (
-      arith,
-      ap (λ (s : Span). s.start) c.text-text.ensures.value,
-      ap (λ (s : Span). s.end) c.text-text.ensures.value,
-      c.text-text.ensures.laid.lawful.low,
-      c.text-text.ensures.laid.lawful.high,
-      c.text-text.ensures.laid.lawful.most,
-    )
+pub judge-requires-clause-ranges : goal.judge-requires-clause-ranges
+judge-requires-clause-ranges g c =
+    subst (λ (ss : List Span). AreRangesFrom RAM_START ss) (sym c.text-text.ensures.value) c.text-text.ensures.laid.lawful.text.ranges
 
 pub judge-requires-clause-inside : goal.judge-requires-clause-inside
 judge-requires-clause-inside g c =
-    subst (λ (s : Span). IsPlacedIn s.start s.end (place_of c.ready_for-ready.result)) (sym c.text-text.ensures.value)
-    (subst (λ (r : Ready). IsPlacedIn c.self.inside.ram.text.start c.self.inside.ram.text.end (place_of r)) (sym c.ready_for-ready.ensures) (ready_placed _ _))
+    subst (λ (ss : List Span). IsPlacedIn ss (place_of c.ready_for-ready.result)) (sym c.text-text.ensures.value)
+    (subst (λ (r : Ready). IsPlacedIn c.self.inside.ram.text (place_of r)) (sym c.ready_for-ready.ensures) (ready_placed _ _))
