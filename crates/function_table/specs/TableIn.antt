@@ -4,7 +4,7 @@ use Rattle.function_table.specs.declared.table.Table.TheInside.{Inside}
 use Rattle.function_table.specs.Groups.{Groups, IsGroups}
 
 abbrev pub groups_in : Inside → Groups
-groups_in t = record { base = t.base; size = t.size; functions = arc_slice_items t.functions; starts = arc_slice_items t.starts }
+groups_in t = record { text = t.text.items; functions = arc_slice_items t.functions; starts = arc_slice_items t.starts }
 
 abbrev pub IsTable : Inside → Type 0
 IsTable t = IsGroups (groups_in t)

@@ -1,7 +1,9 @@
 //! Text as halfwords, and where a function's last one is open.
 
 ghost use Rattle.std.specs.Prelude.{◌≡◌, ◌<◌, ◌^◌, slice_index};
-ghost use Rattle.function_table.specs.Groups.{half_of, is_open, is_closed};
+ghost use Rattle.function_table.specs.Groups.{begins_range, half_of, is_open, is_closed};
+
+use fc_numbers::places::Span;
 
 /// Byte k of a text, 0 past its end.
 fn byte(text: &[u8], k: usize) -> u8
@@ -25,9 +27,23 @@ pub fn is_open_half(half: u16) -> bool
     half % 4 == 3
 }
 
-/// Whether the group of functions before this start ends here.
-pub fn is_closed_start(text: &[u8], start: u32) -> bool
-    ensures { result ≡ is_closed text.now start }
+/// Whether a range of text begins at this offset.
+pub fn begins_range(text: &[Span], offset: u64) -> bool
+    ensures { result ≡ begins_range text.now offset }
 {
-    start > 0 && !is_open_half(half(text, (start as usize / 2).saturating_sub(1)))
+    match text {
+        [] => false,
+        [span, rest @ ..] => {
+            let size = span.end.0.saturating_sub(span.start.0);
+            offset == 0 || (size <= offset && begins_range(rest, offset - size))
+        }
+    }
+}
+
+/// Whether the group of functions before this start ends here.
+pub fn is_closed_start(text: &[Span], bytes: &[u8], start: u32) -> bool
+    ensures { result ≡ is_closed text.now bytes.now start }
+{
+    let before = (start as usize / 2).saturating_sub(1);
+    start > 0 && (begins_range(text, start as u64) || !is_open_half(half(bytes, before)))
 }

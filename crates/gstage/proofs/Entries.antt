@@ -1,9 +1,10 @@
 -- What the entries of a table say: the low ten bits are flags, and the rest is a page number.
-use Rattle.std.proofs.Common.{◌≡◌, ◌∙◌, ℕ, ◌+◌, ◌*◌, ◌/◌, ◌%◌, ◌^◌, ◌<◌, true, false, List, Some, refl, arith, ltb, add-zero}
+use Rattle.std.proofs.Common.{◌≡◌, ◌∙◌, ℕ, ◌+◌, ◌*◌, ◌/◌, ◌%◌, ◌^◌, ◌<◌, true, false, List, Some, refl, arith, eqb, ltb, add-zero}
 use Rattle.std.proofs.lemmas.Bool.Decides.{nat_tests}
+use Rattle.gstage.specs.declared.stage.Placed.TheVariants as placed_in
 use Rattle.gstage.specs.Walk.{is_valid, is_leaf, is_pointer, page_of, walked_from}
 use Rattle.gstage.specs.Map.{text_leaf, ram_leaf}
-use Rattle.gstage.specs.Layout.{pointer_to, text_entry, ram_entry}
+use Rattle.gstage.specs.Layout.{pointer_to, text_entry, ram_entry, placed_by}
 use Rattle.gstage.proofs.Steps.{walked-leaf}
 
 bit-0 : (p f : ℕ) → (p * 1024 + f) / 1 % 2 ≡ f / 1 % 2
@@ -74,3 +75,13 @@ pub ram-walked : (entries : List ℕ) (at n : ℕ) → n < 2 ^ 44 → walked_fro
 ram-walked entries at n few =
     walked-leaf entries at 0 (ram_entry n) (ram-valid n few) (ram-leaf n)
     ∙ rw (bit-6 n 223, page n 223 few (omega arith), one n, bit-1 n 223, bit-2 n 223, bit-7 n 223, bit-3 n 223, bit-4 n 223, one (at / 4096), add-zero) refl
+
+-- an entry with flags is not 0
+some : (p f : ℕ) → 0 < f → eqb (p * 1024 + f) 0 ≡ false
+some p f flags = grind (arith, nat_tests)
+
+pub text-placed : (p : ℕ) → placed_by (text_entry p) ≡ placed_in.Text
+text-placed p = rw (some p 89 (omega arith), bit-2 p 89) refl
+
+pub ram-placed : (p : ℕ) → placed_by (ram_entry p) ≡ placed_in.Ram
+ram-placed p = rw (some p 223 (omega arith), bit-2 p 223) refl

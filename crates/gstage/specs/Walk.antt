@@ -1,19 +1,21 @@
--- The Sv39x4 walk of a list of 8-byte entries, the root first (privileged manual, "Sv39x4: Page-Based 41-bit Virtual-Memory System").
+-- The walk of a list of 8-byte entries, the root first (privileged manual, "Sv39x4: Page-Based 41-bit Virtual-Memory System" and "Sv48x4: Page-Based 50-bit Virtual-Memory System").
 -- The list is a whole number of pages of 512 entries, and a pointer names the table below by its page number in the list.
 use Rattle.std.specs.Prelude.{ℕ, ◌+◌, ◌*◌, ◌/◌, ◌%◌, ◌^◌, ◌==◌, ◌&&◌, ◌||◌, not, nat_lt, Bool, if◌then◌else◌, Option, None, Some, List, slice_index}
 use Rattle.std.proofs.Common.{zero, suc}
+use Rattle.fc_numbers.specs.declared.machine.GKind.{GKind}
+use Rattle.fc_numbers.specs.declared.machine.GKind.TheVariants.{Sv39x4, Sv48x4}
 use Rattle.gstage.specs.declared.walk.Leaf.{Leaf}
+use Rattle.gstage.specs.declared.walk.TheConstants.{PTE_V, PTE_R, PTE_W, PTE_X, PTE_U, PTE_A, PTE_D}
 
--- a bit of an entry: V, R, W, X, U, G, A and D are bits 0 to 7
 abbrev pub has_bit : ℕ → ℕ → Bool
-has_bit entry b = entry / 2 ^ b % 2 == 1
+has_bit entry bit = entry / 2 ^ bit % 2 == 1
 
 -- V = 1, not W without R, and the ten highest bits are zero
 abbrev pub is_valid : ℕ → Bool
-is_valid entry = has_bit entry 0 && not (has_bit entry 2 && not (has_bit entry 1)) && nat_lt entry (2 ^ 54)
+is_valid entry = has_bit entry PTE_V && not (has_bit entry PTE_W && not (has_bit entry PTE_R)) && nat_lt entry (2 ^ 54)
 
 abbrev pub is_leaf : ℕ → Bool
-is_leaf entry = has_bit entry 1 || has_bit entry 3
+is_leaf entry = has_bit entry PTE_R || has_bit entry PTE_X
 
 -- the physical page number, bits 10 to 53
 abbrev pub page_of : ℕ → ℕ
@@ -21,15 +23,15 @@ page_of entry = entry / 2 ^ 10 % 2 ^ 44
 
 -- the page that a leaf of a level maps a place to, and what may be done there: a store needs D as well as W
 abbrev pub leaf_of : ℕ → ℕ → ℕ → Leaf
-leaf_of level at entry = record { page = page_of entry + at / 2 ^ 12 % 512 ^ level; read = has_bit entry 1; write = has_bit entry 2 && has_bit entry 7; execute = has_bit entry 3; user = has_bit entry 4 }
+leaf_of level at entry = record { level = level; page = page_of entry + at / 2 ^ 12 % 512 ^ level; read = has_bit entry PTE_R; write = has_bit entry PTE_W && has_bit entry PTE_D; execute = has_bit entry PTE_X; user = has_bit entry PTE_U }
 
 -- a leaf is aligned to its size, and has A set
 abbrev pub is_usable : ℕ → ℕ → Bool
-is_usable level entry = has_bit entry 6 && (page_of entry % 512 ^ level == 0)
+is_usable level entry = has_bit entry PTE_A && (page_of entry % 512 ^ level == 0)
 
 -- a pointer has none of U, A and D
 abbrev pub is_pointer : ℕ → Bool
-is_pointer entry = not (has_bit entry 4 || has_bit entry 6 || has_bit entry 7)
+is_pointer entry = not (has_bit entry PTE_U || has_bit entry PTE_A || has_bit entry PTE_D)
 
 abbrev pub leaf_at : ℕ → ℕ → ℕ → Option Leaf
 leaf_at level at entry = if is_usable level entry then Some (leaf_of level at entry) else None
@@ -45,6 +47,18 @@ walked_from entries at (suc level) entry =
     else None
     else None
 
--- the root has 2,048 entries, and a place has 41 bits
-abbrev pub walked : List ℕ → ℕ → Option Leaf
-walked entries at = if nat_lt at (2 ^ 41) then walked_from entries at 2 (slice_index entries (at / 2 ^ 30)) else None
+-- the level of the root
+abbrev pub top : GKind → ℕ
+top Sv39x4 = 2
+top Sv48x4 = 3
+
+-- how many bits a place has
+abbrev pub bits : GKind → ℕ
+bits Sv39x4 = 41
+bits Sv48x4 = 50
+
+-- the root has an entry for each number that the highest 11 bits of a place may have
+abbrev pub walked : GKind → List ℕ → ℕ → Option Leaf
+walked kind entries at =
+    if nat_lt at (2 ^ bits kind) then walked_from entries at (top kind) (slice_index entries (at / 2 ^ (12 + 9 * top kind)))
+    else None

@@ -1,11 +1,12 @@
-//! What a second stage answers, and the stage that compares spans.
+//! What a second stage answers, and the stage that compares places with the ranges of text and the span of RAM.
 
-ghost use Rattle.std.specs.Prelude.{◌≡◌, ℕ};
+ghost use Rattle.std.specs.Prelude.{◌≡◌, ℕ, List};
 ghost use Rattle.fc_numbers.specs.declared.places.Span.{Span};
 ghost use Rattle.gstage.specs.Stage.{placed};
 
 use fc_numbers::machine::Access;
 use fc_numbers::places::{Gpa, Span};
+use fc_numbers::spans::{Spans, in_text};
 
 /// Where a guest place lies.
 #[derive(Debug, Clone, Copy, PartialEq, Eq)]
@@ -20,8 +21,8 @@ pub enum Placed {
 
 /// A second stage of translation for one kernel text and one RAM.
 pub trait SecondStage {
-    /// The places of kernel text.
-    ghost text: { Self → Span };
+    /// The ranges of kernel text.
+    ghost text: { Self → List Span };
 
     /// The places of RAM.
     ghost ram: { Self → Span };
@@ -31,22 +32,22 @@ pub trait SecondStage {
         ensures { result ≡ placed (text self.now) (ram self.now) at };
 }
 
-/// The stage that compares a place with the two spans.
-#[derive(Debug, Clone, Copy, PartialEq, Eq)]
+/// The stage that compares a place with the ranges of text and the span of RAM.
+#[derive(Drop)]
 pub struct Flat {
-    /// The places of kernel text.
-    pub text: Span,
+    /// The ranges of kernel text.
+    pub text: Spans,
     /// The places of RAM.
     pub ram: Span,
 }
 
 impl SecondStage for Flat {
-    ghost text = { λ s. s.text };
+    ghost text = { λ s. s.text.items };
 
     ghost ram = { λ s. s.ram };
 
     fn place(&self, at: Gpa, access: Access) -> Placed {
-        if self.text.contains(at) {
+        if in_text(self.text.as_slice(), at) {
             Placed::Text
         } else if self.ram.contains(at) {
             Placed::Ram

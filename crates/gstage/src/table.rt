@@ -1,50 +1,54 @@
 //! The second-stage table of a view.
 
-ghost use Rattle.std.specs.Prelude.{◌≡◌, ℕ, ◌<◌, IfOk};
+ghost use Rattle.std.specs.Prelude.{◌≡◌, ℕ, ◌+◌, ◌*◌, ◌<◌, ◌≤◌, IfOk, List, length};
 ghost use Rattle.fc_numbers.specs.declared.places.Span.{Span};
 ghost use Rattle.gstage.specs.Stage.{placed};
 ghost use Rattle.gstage.specs.Walk.{walked};
 ghost use Rattle.gstage.specs.Map.{AreSpans, mapped, allows, frame_of, found, looked_up};
-ghost use Rattle.gstage.specs.Layout.{page_entry, entry_value, IsBuiltOf};
-ghost use Rattle.gstage.specs.Table.{Table};
+ghost use Rattle.gstage.specs.Layout.{page_entry, pointer_to, lower_value, entry_value, placed_by, IsBuiltOf};
+ghost use Rattle.gstage.specs.Table.{Table, pages_of};
 
 use crate::stage::{Placed, SecondStage};
-use crate::walk::{Leaf, walk};
-use fc_numbers::machine::Access;
+use crate::walk::{Leaf, PTE_W, has_bit, walk};
+use fc_numbers::machine::{Access, GKind};
 use fc_numbers::memory::NoMemory;
-use fc_numbers::places::{Gpa, PAGE, RAM_START, Span, ViewNo};
+use fc_numbers::places::{Gpa, PAGE, RAM_MOST, RAM_START, Span, ViewNo};
+use fc_numbers::spans::{Spans, offset_of};
 use std::alloc::Global;
 use std::marker::Model;
 
+/// The entries of a page of the list, which is a table below the root.
+pub const TABLE: usize = 512;
+
+/// The pages of the root, which has four times as many entries (16 KiB).
+pub const ROOT_PAGES: usize = 4;
+
 /// The entries of the root.
-const ROOT: usize = 2048;
+pub const ROOT: usize = 2048;
 
-/// The entries of a table below the root.
-const TABLE: usize = 512;
+/// The tables of level 0, enough for the largest RAM.
+pub const LEAF_TABLES: usize = 32;
 
-/// The tables of level 0.
-const LEAF_TABLES: usize = 32;
-
-/// The first entry of level 0.
-const LEAVES: usize = ROOT + TABLE;
-
-/// All entries: the root, the table of level 1, and those of level 0.
-const ENTRIES: usize = LEAVES + LEAF_TABLES * TABLE;
+/// The number of the GiB that RAM is in.
+pub const RAM_GIB: usize = 2;
 
 /// The host page of text page 0 of view 0: the first that is no page of RAM.
-const TEXT_PAGES: u64 = 16384;
+pub const TEXT_PAGES: u64 = 16_384;
 
 /// The host pages of a view's text.
-const VIEW_PAGES: u64 = 1024;
+pub const VIEW_PAGES: u64 = 1024;
+
+/// What a page number is counted in within an entry: it begins at bit 10.
+pub const PTE_PPN: u64 = 0x400;
 
 /// V: a pointer to a table.
-const POINTER: u64 = 0x01;
+pub const POINTER: u64 = 0x01;
 
 /// V, X, U and A: a page that may be executed alone.
-const TEXT_LEAF: u64 = 0x59;
+pub const TEXT_LEAF: u64 = 0x59;
 
 /// V, R, W, X, U, A and D: a page that is free.
-const RAM_LEAF: u64 = 0xdf;
+pub const RAM_LEAF: u64 = 0xdf;
 
 /// A host page: a page of RAM, or a page of the text of a view.
 #[derive(Debug, Clone, Copy, PartialEq, Eq)]
@@ -64,11 +68,12 @@ pub enum G {
     Unmapped,
 }
 
-/// The Sv39x4 table of one view for one text and one RAM.
+/// The table of one view for one text and one RAM.
 #[derive(Drop)]
 pub struct GTable {
+    kind: GKind,
     entries: Vec<u64>,
-    text: Span,
+    text: Spans,
     ram: Span,
     view: ViewNo,
 }
@@ -85,55 +90,131 @@ impl Model for GTable {
     ghost invariant = { IsBuilt };
 }
 
+/// An entry that points to the table at this page of the list.
+fn pointer_to(page: usize) -> u64
+    requires { page < 64 }
+    ensures { result ≡ pointer_to page }
+{
+    page as u64 * PTE_PPN + POINTER
+}
+
 /// The entry of the n-th page from the start of RAM on.
-#[tactic(auto, unfolding(crate::specs::Layout::page_entry))]
-fn page_entry(text: &Span, ram: &Span, view: u8, n: u64) -> u64
+#[tactic(auto, using(crate::proofs::Pages::few_pages), unfolding(crate::specs::Layout::page_entry))]
+fn page_entry(text: &[Span], ram: &Span, view: u8, n: u64) -> u64
     requires spans { AreSpans text.now ram.now }
     requires few { n < 16384 }
     ensures { result ≡ page_entry text.now ram.now view n }
 {
     let at = Gpa(RAM_START + PAGE * n);
-    if text.contains(at) {
-        let page = TEXT_PAGES + VIEW_PAGES * view as u64 + (at.0 - text.start.0) / PAGE;
-        page * 1024 + TEXT_LEAF
-    } else if ram.contains(at) {
-        n * 1024 + RAM_LEAF
-    } else {
-        0
+    match offset_of(text, at) {
+        Some(offset) => {
+            let page = TEXT_PAGES + VIEW_PAGES * view as u64 + offset / PAGE;
+            page * PTE_PPN + TEXT_LEAF
+        }
+        None => {
+            if ram.contains(at) {
+                n * PTE_PPN + RAM_LEAF
+            } else {
+                0
+            }
+        }
     }
 }
 
-/// Entry i of the table: the root first, then the table of level 1, then those of level 0.
-#[tactic(auto, unfolding(crate::specs::Layout::entry_value))]
-fn entry_value(text: &Span, ram: &Span, view: u8, i: usize) -> u64
+/// Entry k from the table of level 1 on, which is this page of the list.
+#[tactic(auto, unfolding(crate::specs::Layout::lower_value))]
+fn lower_value(text: &[Span], ram: &Span, view: u8, page: usize, k: usize) -> u64
     requires spans { AreSpans text.now ram.now }
-    requires few { i < 18944 }
-    ensures { result ≡ entry_value text.now ram.now view i }
+    requires page { page ≤ 5 }
+    requires few { k < 16896 }
+    ensures { result ≡ lower_value text.now ram.now view page k }
 {
-    if i < ROOT {
-        if i == 2 { 4 * 1024 + POINTER } else { 0 }
-    } else if i < LEAVES {
-        let k = i - ROOT;
-        if k < LEAF_TABLES {
-            (5 + k as u64) * 1024 + POINTER
-        } else {
-            0
-        }
+    if k < LEAF_TABLES {
+        pointer_to(page + 1 + k)
+    } else if k < TABLE {
+        0
     } else {
-        page_entry(text, ram, view, (i - LEAVES) as u64)
+        page_entry(text, ram, view, (k - TABLE) as u64)
+    }
+}
+
+/// Entry i of the table of this kind.
+#[tactic(auto, unfolding(crate::specs::Layout::entry_value))]
+fn entry_value(kind: GKind, text: &[Span], ram: &Span, view: u8, i: usize) -> u64
+    requires spans { AreSpans text.now ram.now }
+    requires few { i < TABLE * pages_of kind }
+    ensures { result ≡ entry_value kind text.now ram.now view i }
+{
+    match kind {
+        GKind::Sv39x4 => {
+            if i < ROOT {
+                if i == RAM_GIB {
+                    pointer_to(ROOT_PAGES)
+                } else {
+                    0
+                }
+            } else {
+                lower_value(text, ram, view, ROOT_PAGES, i - ROOT)
+            }
+        }
+        GKind::Sv48x4 => {
+            if i < ROOT {
+                if i == 0 { pointer_to(ROOT_PAGES) } else { 0 }
+            } else if i < ROOT + TABLE {
+                if i == ROOT + RAM_GIB {
+                    pointer_to(ROOT_PAGES + 1)
+                } else {
+                    0
+                }
+            } else {
+                lower_value(text, ram, view, ROOT_PAGES + 1, i - (ROOT + TABLE))
+            }
+        }
+    }
+}
+
+/// The pages of the list before the tables of level 0.
+fn pages_above(kind: GKind) -> usize
+    ensures value { result + LEAF_TABLES ≡ pages_of kind }
+    ensures most { result ≤ 6 }
+{
+    match kind {
+        GKind::Sv39x4 => ROOT_PAGES + 1,
+        GKind::Sv48x4 => ROOT_PAGES + 2,
     }
 }
 
 /// All entries of the table, in order.
-fn entries_of(alloc: Global, text: &Span, ram: &Span, view: u8) -> Result<Vec<u64>, NoMemory>
+fn entries_of(
+    alloc: Global,
+    kind: GKind,
+    text: &[Span],
+    ram: &Span,
+    view: u8,
+) -> Result<Vec<u64>, NoMemory>
     requires { AreSpans text.now ram.now }
-    ensures { IfOk result (λ entries. IsBuiltOf text.now ram.now view entries.items) }
+    ensures size { IfOk result (λ entries. length entries.items ≡ TABLE * pages_of kind) }
+    ensures laid { IfOk result (λ entries. IsBuiltOf kind text.now ram.now view entries.items) }
 {
-    let mut entries = Vec::with_capacity(alloc, ENTRIES)?;
-    for i in 0..ENTRIES {
-        entries.push(entry_value(text, ram, view, i))?;
+    let count = TABLE * (pages_above(kind) + LEAF_TABLES);
+    let mut entries = Vec::with_capacity(alloc, count)?;
+    for i in 0..count {
+        entries.push(entry_value(kind, text, ram, view, i))?;
     }
     Ok(entries)
+}
+
+/// Where the places of a page lie, by its entry of level 0.
+fn placed_by(entry: u64) -> Placed
+    ensures { result ≡ placed_by entry }
+{
+    if entry == 0 {
+        Placed::Outside
+    } else if has_bit(entry, PTE_W) {
+        Placed::Ram
+    } else {
+        Placed::Text
+    }
 }
 
 /// The host page of a page number.
@@ -164,16 +245,25 @@ fn allows(leaf: Leaf, access: Access) -> bool
 }
 
 impl GTable {
-    /// The table of this view for this text and this RAM.
-    pub fn build(alloc: Global, text: Span, ram: Span, view: ViewNo) -> Result<GTable, NoMemory>
-        requires { AreSpans text ram }
-        ensures text { IfOk result (λ table. table.text ≡ text) }
+    /// The table of this kind and this view for this text and this RAM.
+    pub fn build(
+        alloc: Global,
+        text: Spans,
+        ram: Span,
+        view: ViewNo,
+        kind: GKind,
+    ) -> Result<GTable, NoMemory>
+        requires { AreSpans text.items ram }
+        ensures kind { IfOk result (λ table. table.kind ≡ kind) }
+        ensures text { IfOk result (λ table. table.text ≡ text.items) }
         ensures ram { IfOk result (λ table. table.ram ≡ ram) }
         ensures view { IfOk result (λ table. table.view ≡ view) }
-        ensures maps { IfOk result (λ table. (at : ℕ) → walked table.entries at ≡ mapped text ram view at) }
+        ensures size { IfOk result (λ table. length table.entries ≡ TABLE * pages_of kind) }
+        ensures maps { IfOk result (λ table. (at : ℕ) → walked kind table.entries at ≡ mapped text.items ram view at) }
     {
-        let entries = entries_of(alloc, &text, &ram, view.0)?;
+        let entries = entries_of(alloc, kind, text.as_slice(), &ram, view.0)?;
         Ok(GTable {
+            kind,
             entries,
             text,
             ram,
@@ -182,11 +272,12 @@ impl GTable {
     }
 
     /// Where an access to the place goes, by the walk of the table.
+    #[tactic(auto, using(crate::proofs::Pages::mapped_page, crate::proofs::Pages::found_mapped, crate::proofs::Pages::looked_leaf))]
     pub fn lookup(&self, at: Gpa, access: Access) -> G
-        ensures walk { result ≡ found (walked self.now.entries at) access }
+        ensures walk { result ≡ found (walked self.now.kind self.now.entries at) access }
         ensures map { result ≡ looked_up self.now.text self.now.ram self.now.view at access }
     {
-        match walk(&self.entries, at.0) {
+        match walk(self.kind, &self.entries, at.0) {
             Some(leaf) => {
                 if allows(leaf, access) {
                     G::Frame(frame_of(leaf.page))
@@ -204,11 +295,13 @@ impl SecondStage for GTable {
 
     ghost ram = { λ (t : Table). t.ram };
 
+    /// By the entry of level 0, which stands at the number of its page: this is on the way of every access.
     fn place(&self, at: Gpa, access: Access) -> Placed {
-        match self.lookup(at, access) {
-            G::Frame(Frame::Ram(_)) => Placed::Ram,
-            G::Frame(Frame::Text(_, _)) | G::ExecOnly => Placed::Text,
-            G::Unmapped => Placed::Outside,
+        let above = TABLE * pages_above(self.kind);
+        if at.0 < RAM_START || at.0 - RAM_START >= RAM_MOST {
+            return Placed::Outside;
         }
+        let page = (at.0 - RAM_START) / PAGE;
+        placed_by(self.entries[above + page as usize])
     }
 }

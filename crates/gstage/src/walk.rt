@@ -1,26 +1,38 @@
-//! The Sv39x4 walk of a list of entries (privileged manual, "Sv39x4: Page-Based 41-bit Virtual-Memory System").
+//! The walk of a list of entries (privileged manual, "Sv39x4: Page-Based 41-bit Virtual-Memory System" and "Sv48x4:
+//! Page-Based 50-bit Virtual-Memory System").
 
 ghost use Rattle.std.specs.Prelude.{◌≡◌, ◌≤◌, ◌<◌, ◌+◌, ◌*◌, ◌/◌, ◌%◌, ◌^◌, slice_index};
-ghost use Rattle.gstage.specs.Walk.{has_bit, is_valid, is_leaf, is_pointer, page_of, leaf_at, walked_from, walked};
+ghost use Rattle.gstage.specs.Walk.{has_bit, is_valid, is_leaf, is_pointer, page_of, leaf_at, walked_from, walked, top, bits};
 
-/// Bits of an entry.
-const V: u32 = 0;
+use fc_numbers::machine::GKind;
 
-const R: u32 = 1;
+/// The entry says something.
+pub const PTE_V: u32 = 0;
 
-const W: u32 = 2;
+/// The page may be loaded from.
+pub const PTE_R: u32 = 1;
 
-const X: u32 = 3;
+/// The page may be stored to.
+pub const PTE_W: u32 = 2;
 
-const U: u32 = 4;
+/// The page may be executed.
+pub const PTE_X: u32 = 3;
 
-const A: u32 = 6;
+/// The page is one of user level.
+pub const PTE_U: u32 = 4;
 
-const D: u32 = 7;
+/// The page was accessed.
+pub const PTE_A: u32 = 6;
+
+/// The page was stored to.
+pub const PTE_D: u32 = 7;
 
 /// A leaf: the host page that it maps a place to, and what may be done there.
 #[derive(Debug, Clone, Copy, PartialEq, Eq)]
 pub struct Leaf {
+    /// The level of the table that it stands in: 0 for a page of 4 KiB.
+    pub level: u32,
+    /// The number of the host page.
     pub page: u64,
     pub read: bool,
     pub write: bool,
@@ -29,7 +41,7 @@ pub struct Leaf {
 }
 
 /// Whether a bit of the entry is set.
-fn has_bit(entry: u64, bit: u32) -> bool
+pub(crate) fn has_bit(entry: u64, bit: u32) -> bool
     requires { bit < 64 }
     ensures { result ≡ has_bit entry bit }
 {
@@ -40,19 +52,19 @@ fn has_bit(entry: u64, bit: u32) -> bool
 fn is_valid(entry: u64) -> bool
     ensures { result ≡ is_valid entry }
 {
-    has_bit(entry, V) && !(has_bit(entry, W) && !has_bit(entry, R)) && entry < 1 << 54
+    has_bit(entry, PTE_V) && !(has_bit(entry, PTE_W) && !has_bit(entry, PTE_R)) && entry < 1 << 54
 }
 
 fn is_leaf(entry: u64) -> bool
     ensures { result ≡ is_leaf entry }
 {
-    has_bit(entry, R) || has_bit(entry, X)
+    has_bit(entry, PTE_R) || has_bit(entry, PTE_X)
 }
 
 fn is_pointer(entry: u64) -> bool
     ensures { result ≡ is_pointer entry }
 {
-    !(has_bit(entry, U) || has_bit(entry, A) || has_bit(entry, D))
+    !(has_bit(entry, PTE_U) || has_bit(entry, PTE_A) || has_bit(entry, PTE_D))
 }
 
 /// The physical page number of an entry.
@@ -66,45 +78,48 @@ fn page_of(entry: u64) -> u64
 /// What is left of a page number where the pages of a leaf of this level are taken away. Each arm divides by a
 /// constant, since this stands on the way of every access.
 fn page_in_leaf(level: u32, page: u64) -> u64
-    requires { level ≤ 2 }
+    requires { level ≤ 3 }
     ensures value { result ≡ page % 512 ^ level }
-    ensures most { result < 2 ^ 18 }
+    ensures most { result < 2 ^ 27 }
 {
     match level {
         0 => 0,
         1 => page % 512,
-        _ => page % 262_144,
+        2 => page % 262_144,
+        _ => page % 134_217_728,
     }
 }
 
 /// The leaf that an entry of this level is.
 fn leaf_at(level: u32, at: u64, entry: u64) -> Option<Leaf>
-    requires { level ≤ 2 }
+    requires { level ≤ 3 }
     ensures { result ≡ leaf_at level at entry }
 {
     let page = page_of(entry);
-    if has_bit(entry, A) && page_in_leaf(level, page) == 0 {
+    if has_bit(entry, PTE_A) && page_in_leaf(level, page) == 0 {
         Some(Leaf {
+            level,
             page: page + page_in_leaf(level, at >> 12),
-            read: has_bit(entry, R),
-            write: has_bit(entry, W) && has_bit(entry, D),
-            execute: has_bit(entry, X),
-            user: has_bit(entry, U),
+            read: has_bit(entry, PTE_R),
+            write: has_bit(entry, PTE_W) && has_bit(entry, PTE_D),
+            execute: has_bit(entry, PTE_X),
+            user: has_bit(entry, PTE_U),
         })
     } else {
         None
     }
 }
 
-/// The index of a place in a table of level 0 or 1.
+/// The index of a place in a table below the root.
 fn index_of(level: u32, at: u64) -> u64
-    requires { level ≤ 1 }
+    requires { level ≤ 2 }
     ensures value { result ≡ at / 2 ^ (12 + 9 * level) % 512 }
     ensures low { result < 512 }
 {
     match level {
         0 => (at >> 12) % 512,
-        _ => (at >> 21) % 512,
+        1 => (at >> 21) % 512,
+        _ => (at >> 30) % 512,
     }
 }
 
@@ -122,7 +137,7 @@ fn entry_at(entries: &[u64], index: u64) -> u64
 
 /// The walk from an entry of this level on.
 fn walk_from(entries: &[u64], at: u64, level: u32, entry: u64) -> Option<Leaf>
-    requires { level ≤ 2 }
+    requires { level ≤ 3 }
     ensures { result ≡ walked_from entries.now at level entry }
 {
     if !is_valid(entry) {
@@ -138,12 +153,44 @@ fn walk_from(entries: &[u64], at: u64, level: u32, entry: u64) -> Option<Leaf>
     walk_from(entries, at, level - 1, below)
 }
 
-/// The leaf that the walk of the entries finds for a place.
-pub fn walk(entries: &[u64], at: u64) -> Option<Leaf>
-    ensures { result ≡ walked entries.now at }
+/// The level of the root.
+fn top(kind: GKind) -> u32
+    ensures value { result ≡ top kind }
+    ensures most { result ≤ 3 }
 {
-    if at >= 1 << 41 {
+    match kind {
+        GKind::Sv39x4 => 2,
+        GKind::Sv48x4 => 3,
+    }
+}
+
+/// How many places there are.
+fn places(kind: GKind) -> u64
+    ensures { result ≡ 2 ^ bits kind }
+{
+    match kind {
+        GKind::Sv39x4 => 1 << 41,
+        GKind::Sv48x4 => 1 << 50,
+    }
+}
+
+/// The index of a place in the root.
+fn root_index(kind: GKind, at: u64) -> u64
+    ensures { result ≡ at / 2 ^ (12 + 9 * top kind) }
+{
+    match kind {
+        GKind::Sv39x4 => at >> 30,
+        GKind::Sv48x4 => at >> 39,
+    }
+}
+
+/// The leaf that the walk of the entries finds for a place.
+pub fn walk(kind: GKind, entries: &[u64], at: u64) -> Option<Leaf>
+    ensures { result ≡ walked kind entries.now at }
+{
+    if at >= places(kind) {
         return None;
     }
-    walk_from(entries, at, 2, entry_at(entries, at >> 30))
+    let root = entry_at(entries, root_index(kind, at));
+    walk_from(entries, at, top(kind), root)
 }

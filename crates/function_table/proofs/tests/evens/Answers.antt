@@ -1,6 +1,6 @@
 use Rattle.std.proofs.Common.{◌≡◌, ℕ, ◌%◌, ◌*◌, ◌+◌, ◌<◌, List, [], ◌∷◌, ◌++◌, arith}
 use Rattle.std.proofs.lemmas.Grind.{common_steps}
-use Rattle.guest_image.specs.Accepted.{IsAscendingFrom, IsStarts}
+use Rattle.guest_input.specs.Accepted.{IsAscendingFrom, IsStarts}
 use Rattle.function_table.proofs.tests.evens.Goals as goal
 
 ascending-pushed : (low y size : ℕ) (xs : List ℕ) → IsAscendingFrom low xs y → y % 2 ≡ 0 → y < size → IsAscendingFrom low (xs ++ y ∷ []) size

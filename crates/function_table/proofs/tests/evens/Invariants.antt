@@ -1,5 +1,5 @@
 use Rattle.std.proofs.Common.{◌≡◌, ◌*◌, length}
-use Rattle.guest_image.specs.Accepted.{IsStarts}
+use Rattle.guest_input.specs.Accepted.{IsStarts}
 use Rattle.function_table.proofs.tests.evens.Given as goal
 
 abbrev pub invariant-loop-k : goal.invariant-loop-k

@@ -1,7 +1,7 @@
 use Rattle.std.proofs.Common.{◌≡◌}
 use Rattle.std.specs.Prelude.{take}
-use Rattle.guest_image.specs.Accepted.{offsets_of}
+use Rattle.guest_input.specs.Accepted.{starts_of}
 use Rattle.function_table.proofs.tests.kernel.Given as goal
 
-abbrev pub invariant-loop-offset : goal.invariant-loop-offset
-invariant-loop-offset l = offsets_of l.functions ≡ take l.offset-index l.offsets
+abbrev pub invariant-loop-at : goal.invariant-loop-at
+invariant-loop-at l = starts_of l.functions ≡ take l.at-index l.starts

@@ -3,14 +3,20 @@ use Rattle.gstage.proofs.table.GTable.build.Goals as goal
 
 pub invariant_of-result : goal.invariant_of-result
 invariant_of-result c =
-    let each = maps c.in_ok-entries.entries.items c.args.text c.args.ram c.view.inside.0 c.requires c.view.invariant c.in_ok-entries.ensures in
+    let laid = rw c.as_slice.ensures.value at c.in_ok-entries.ensures.laid in
+    let each = maps c.args.kind c.in_ok-entries.entries.items c.args.text.items c.args.ram c.view.inside.0 c.requires c.view.invariant laid in
     record {
-      spans = c.requires;
-      few = rw c.view.view_is at c.view.invariant;
-      maps = rw c.view.view_is at each;
+      table = record {
+        spans = c.requires;
+        few = rw c.view.view_is at c.view.invariant;
+        size = c.in_ok-entries.ensures.size;
+        maps = rw c.view.view_is at each;
+      };
+      laid = rw c.view.view_is at laid;
     }
 
 pub returns-clause-maps : goal.returns-clause-maps
 returns-clause-maps c =
-    let each = maps c.in_ok-entries.entries.items c.args.text c.args.ram c.view.inside.0 c.requires c.view.invariant c.in_ok-entries.ensures in
+    let laid = rw c.as_slice.ensures.value at c.in_ok-entries.ensures.laid in
+    let each = maps c.args.kind c.in_ok-entries.entries.items c.args.text.items c.args.ram c.view.inside.0 c.requires c.view.invariant laid in
     rw c.view.view_is at each
