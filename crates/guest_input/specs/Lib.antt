@@ -2,3 +2,4 @@ pub mod Text
 pub mod TextIn
 pub mod PartIn
 pub mod Accepted
+pub mod Starts

@@ -7,8 +7,9 @@ use crate::ranges::Ranges;
 use sqlite_items::Items;
 use std::marker::Model;
 
-/// Where a function starts: the number of the range of text, from 0 on, and the bytes from the start of that range.
-#[derive(Debug, Clone, Copy, PartialEq, Eq)]
+/// Where a function starts: the number of the range of text, from 0 on, and the bytes from the start of that range. Starts
+/// are ordered by range, and in one range by offset.
+#[derive(Debug, Clone, Copy, PartialEq, Eq, PartialOrd, Ord)]
 pub struct Start {
     pub range: u8,
     pub offset: u32,

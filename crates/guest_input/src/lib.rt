@@ -4,12 +4,14 @@
 //! - [`ranges`]: the bytes of text, with the places where they stand.
 //! - [`setup`]: vCPUs, RAM, steps, hook, device events.
 //! - [`limits`]: how much of each there may be.
+//! - [`laws`]: how starts are ordered.
 //!
 //! `specs/` says what holds of every image and setup that was accepted. No file format is known here: the readers stand
 //! above, beside the machine.
 #![tactic(auto)]
 
 pub mod image;
+pub mod laws;
 pub mod limits;
 pub mod ranges;
 pub mod setup;

@@ -5,3 +5,4 @@ pub mod EachOf
 pub mod Functions
 pub mod Leasts
 pub mod Ordered
+pub mod TestKernel

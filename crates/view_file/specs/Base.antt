@@ -2,34 +2,36 @@
 -- The rule is this project's own: a view may run whole groups of joined functions.
 use Rattle.std.specs.Prelude.{ℕ, zero, suc, ◌-◌, ◌==◌, ◌||◌, ◌++◌, Bool, List, [], ◌∷◌, map}
 use Rattle.std.specs.List.{list_any, flat_map, range_with_len}
+use Rattle.guest_input.specs.declared.image.Start.{Start}
+use Rattle.guest_input.specs.Text.{flat_of}
 use Rattle.function_table.specs.Groups.{Groups, group_in, groups_count}
 use Rattle.view_file.specs.declared.views.App.{App}
 use Rattle.view_file.specs.declared.views.Views.{Views}
 
--- the offset is a function's
-abbrev pub is_function : List ℕ → ℕ → Bool
-is_function functions offset = list_any (λ start. start == offset) functions
-
 -- the functions of app n, counted from 0
-abbrev pub functions_of : List App → ℕ → List ℕ
+abbrev pub functions_of : List App → ℕ → List Start
 functions_of [] n = []
 functions_of (app ∷ apps) zero = app.functions
 functions_of (app ∷ apps) (suc n) = functions_of apps n
 
 -- the functions listed for view n, from 1 on: those of its app and the shared ones
-abbrev pub listed_for : Views → ℕ → List ℕ
+abbrev pub listed_for : Views → ℕ → List Start
 listed_for v number = functions_of v.apps (number - 1) ++ v.shared
 
 -- every listed function
-abbrev pub all_listed : Views → List ℕ
+abbrev pub all_listed : Views → List Start
 all_listed v = v.shared ++ flat_map (λ app. app.functions) v.apps
 
--- group n holds one of these functions
-abbrev pub holds_one : List ℕ → List ℕ → ℕ → Bool
-holds_one starts functions group = list_any (λ offset. group_in starts offset == group) functions
+-- the group of a function's start
+abbrev pub group_of_start : Groups → Start → ℕ
+group_of_start t at = group_in t.starts (flat_of t.text at)
+
+-- the group holds one of these functions
+abbrev pub holds_one : Groups → List Start → ℕ → Bool
+holds_one t functions group = list_any (λ at. group_of_start t at == group) functions
 
 abbrev pub is_based : Views → Groups → ℕ → ℕ → Bool
-is_based v t number group = number == 0 || holds_one t.starts (listed_for v number) group
+is_based v t number group = number == 0 || holds_one t (listed_for v number) group
 
 -- one truth per group, in order
 abbrev pub base_of : Views → Groups → ℕ → List Bool

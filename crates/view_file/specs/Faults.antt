@@ -1,4 +1,4 @@
--- How faults of views are printed: the number, the name, and the offset that an unknown function has.
+-- How faults of views are printed: the number, the name, and the range and the offset where no function starts.
 -- Numbers and names are those of this project's table of faults.
 use Rattle.std.specs.Prelude.{ℕ, List, ◌++◌, codes}
 use Rattle.std.specs.Fmt.{decimal}
@@ -9,7 +9,7 @@ abbrev pub shown_fault : ViewFault → List ℕ
 shown_fault NotJson = codes "1 NotJson"
 shown_fault Shape = codes "2 Shape"
 shown_fault OtherText = codes "3 OtherText"
-shown_fault (UnknownFunction n) = codes "4 UnknownFunction " ++ decimal n
+shown_fault (UnknownFunction at) = codes "4 UnknownFunction " ++ decimal at.range ++ codes " " ++ decimal at.offset
 shown_fault TooManyApps = codes "5 TooManyApps"
 shown_fault BadName = codes "6 BadName"
 shown_fault NoMemory = codes "7 NoMemory"

@@ -1,24 +1,27 @@
--- The least of listed offsets that is no function's.
--- The rule is this project's own: views that list an unknown function are refused by the least such offset.
-use Rattle.std.specs.Prelude.{◌≡◌, ℕ, ◌<◌, ◌==◌, min, Bool, true, false, List, Option, Some, None}
+-- The least of listed starts that is no function's.
+-- The rule is this project's own: views that list an unknown function are refused by the least such start.
+use Rattle.std.specs.Prelude.{◌≡◌, Bool, true, false, List, Option, Some, None}
 use Rattle.std.specs.List.{list_all, list_any}
-use Rattle.view_file.specs.Base.{is_function}
+use Rattle.std.specs.Ordering.{ord_min}
+use Rattle.std.specs.declared.cmp.Ordering.TheVariants.{Less}
+use Rattle.guest_input.specs.declared.image.Start.{Start}
+use Rattle.guest_input.specs.Starts.{is_same, start_cmp}
 
-abbrev pub contains : List ℕ → ℕ → Bool
-contains xs n = list_any (λ x. n == x) xs
+abbrev pub contains : List Start → Start → Bool
+contains starts at = list_any (is_same at) starts
 
--- n is the least listed offset that is no function's
-pub record IsLeastUnknown (functions listed : List ℕ) (n : ℕ) : Type 0 where
-  pub one : contains listed n ≡ true
-  pub unknown : is_function functions n ≡ false
-  pub least : (m : ℕ) → m < n → contains listed m ≡ true → is_function functions m ≡ true
+-- the least listed start that is not known
+pub record IsLeastUnknown (known : Start → Bool) (listed : List Start) (at : Start) : Type 0 where
+  pub one : contains listed at ≡ true
+  pub unknown : known at ≡ false
+  pub least : (other : Start) → start_cmp other at ≡ Less → contains listed other ≡ true → known other ≡ true
 
--- all offsets are functions', or this is the least that is none's
-abbrev pub IsLeastOf : List ℕ → List ℕ → Option ℕ → Type 0
-IsLeastOf functions listed None = list_all (is_function functions) listed ≡ true
-IsLeastOf functions listed (Some n) = IsLeastUnknown functions listed n
+-- all starts are known, or this is the least that is not
+abbrev pub IsLeastOf : (Start → Bool) → List Start → Option Start → Type 0
+IsLeastOf known listed None = list_all known listed ≡ true
+IsLeastOf known listed (Some at) = IsLeastUnknown known listed at
 
-abbrev pub lesser_of : Option ℕ → Option ℕ → Option ℕ
+abbrev pub lesser_of : Option Start → Option Start → Option Start
 lesser_of None b = b
-lesser_of (Some m) None = Some m
-lesser_of (Some m) (Some n) = Some (min m n)
+lesser_of (Some a) None = Some a
+lesser_of (Some a) (Some b) = Some (ord_min start_cmp a b)

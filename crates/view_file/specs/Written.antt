@@ -1,5 +1,6 @@
--- What a views file writes: {"apps":[{"functions":[0,12],"name":"sh"}],"shared":[28],"text":"<64 digits>","version":1}.
--- The form is this project's own; JSON is RFC 8259, as serde_json reads it. Keys, offsets and apps come in any order.
+-- What a views file writes: {"apps":[{"functions":[[0,0],[1,12]],"name":"sh"}],"shared":[[0,28]],"text":"<64 digits>","version":2}.
+-- Version 1 writes a function as its offset alone, which is one in range 0.
+-- The form is this project's own; JSON is RFC 8259, as serde_json reads it. Keys, functions and apps come in any order.
 use Rattle.std.specs.Prelude.{◌≡◌, ℕ, ◌^◌, ◌==◌, ◌&&◌, nat_lt, nat_le, Bool, if◌then◌else◌, List, [], ◌∷◌, length, map, codes, Option, Some, None, option_and_then, Result, Ok, Err}
 use Rattle.std.specs.List.{list_all}
 use Rattle.std.specs.Result.{result_ok}
@@ -9,30 +10,20 @@ use Rattle.hex.specs.Hex.{decode_sized}
 use Rattle.serde_json.specs.Data.{Data}
 use Rattle.serde_json.specs.Find.{get}
 use Rattle.fc_numbers.specs.Names.{is_app_name}
-use Rattle.json_fields.specs.Fields.{json_of, has_only_keys, whole_of, text_of, array_of, each_of}
+use Rattle.fc_numbers.specs.declared.spans.TheConstants.{RANGES_MOST}
+use Rattle.guest_input.specs.declared.image.Start.{Start}
+use Rattle.json_fields.specs.Fields.{json_of, has_only_keys, whole_of, text_of, array_of, pair_of, each_of}
 use Rattle.view_file.specs.declared.views.TheConstants.{APPS_MOST}
 use Rattle.view_file.specs.declared.fault.ViewFault.{ViewFault}
 use Rattle.view_file.specs.declared.fault.ViewFault.TheVariants.{NotJson, Shape, OtherText, UnknownFunction, BadName, TooManyApps, NoMemory}
+use Rattle.view_file.specs.declared.written.Version.{Version}
+use Rattle.view_file.specs.declared.written.Version.TheVariants.{One, Two}
 use Rattle.view_file.specs.declared.written.Written.{Written}
 use Rattle.view_file.specs.declared.written.WrittenApp.{WrittenApp}
 
 -- the member at a key, in the form that f reads
 abbrev pub member_as : {A : Type 0} → (Data → Option A) → List ℕ → Data → Option A
 member_as f key d = option_and_then f (get key d)
-
-abbrev pub if_offset : ℕ → Option ℕ
-if_offset n = if nat_lt n (2 ^ 32) then Some n else None
-
--- an offset in text
-unfoldable pub offset_of : Data → Option ℕ
-offset_of d = option_and_then if_offset (whole_of d)
-
-unfoldable pub offsets_of : Data → Option (List ℕ)
-offsets_of d = option_and_then (each_of offset_of) (array_of d)
-
--- the 32 bytes of 64 hexadecimal digits
-unfoldable pub digest_of : Data → Option (List ℕ)
-digest_of d = option_and_then (λ digits. result_ok (decode_sized digits 32)) (text_of d)
 
 -- a step that is taken where the step before gave something
 infixl 10 ◌>>=◌
@@ -43,28 +34,53 @@ None >>= f = None
 abbrev pub when : Bool → Option Bool
 when b = if b then Some b else None
 
+-- the start of this range and offset, where there may be so many ranges, and the offset fits 32 bits
+abbrev pub start_in : ℕ → ℕ → Option Start
+start_in range offset = if nat_lt range RANGES_MOST && nat_lt offset (2 ^ 32) then Some (record { range = range; offset = offset }) else None
+
+abbrev pub start_of_both : Data × Data → Option Start
+start_of_both both = do
+  range ← whole_of both.0
+  offset ← whole_of both.1
+  start_in range offset
+
+-- a function: an offset in range 0, or a range and an offset in it
+unfoldable pub start_of : Version → Data → Option Start
+start_of One d = option_and_then (start_in 0) (whole_of d)
+start_of Two d = option_and_then start_of_both (pair_of d)
+
+unfoldable pub starts_of : Version → Data → Option (List Start)
+starts_of version d = option_and_then (each_of (start_of version)) (array_of d)
+
+-- the 32 bytes of 64 hexadecimal digits
+unfoldable pub digest_of : Data → Option (List ℕ)
+digest_of d = option_and_then (λ digits. result_ok (decode_sized digits 32)) (text_of d)
+
 -- an app: its name, whatever it is, and its functions
-unfoldable pub app_of : Data → Option WrittenApp
-app_of d = do
+unfoldable pub app_of : Version → Data → Option WrittenApp
+app_of version d = do
   known ← when (has_only_keys (codes "functions" ∷ codes "name" ∷ []) d)
   name ← member_as text_of (codes "name") d
-  functions ← member_as offsets_of (codes "functions") d
+  functions ← member_as (starts_of version) (codes "functions") d
   Some (record { name = name; functions = functions })
 
-unfoldable pub apps_of : Data → Option (List WrittenApp)
-apps_of d = option_and_then (each_of app_of) (array_of d)
+unfoldable pub apps_of : Version → Data → Option (List WrittenApp)
+apps_of version d = option_and_then (each_of (app_of version)) (array_of d)
 
-abbrev pub is_one : ℕ → Option Bool
-is_one n = when (n == 1)
+abbrev pub version_numbered : ℕ → Option Version
+version_numbered n = if n == 1 then Some One else (if n == 2 then Some Two else None)
 
--- a views file of version 1
+abbrev pub version_of : Data → Option Version
+version_of d = option_and_then version_numbered (whole_of d)
+
+-- a views file of version 1 or 2
 unfoldable pub written_of : Data → Option Written
 written_of d = do
   known ← when (has_only_keys (codes "apps" ∷ codes "shared" ∷ codes "text" ∷ codes "version" ∷ []) d)
-  version ← option_and_then is_one (member_as whole_of (codes "version") d)
+  version ← member_as version_of (codes "version") d
   text ← member_as digest_of (codes "text") d
-  shared ← member_as offsets_of (codes "shared") d
-  apps ← member_as apps_of (codes "apps") d
+  shared ← member_as (starts_of version) (codes "shared") d
+  apps ← member_as (apps_of version) (codes "apps") d
   Some (record { text = text; shared = shared; apps = apps })
 
 abbrev pub names_of : List WrittenApp → List (List ℕ)
@@ -103,4 +119,4 @@ Fails BadName written = written ≡ Err BadName
 Fails TooManyApps written = written ≡ Err TooManyApps
 Fails NoMemory written = Unit {0}
 Fails OtherText written = ⊥
-Fails (UnknownFunction n) written = ⊥
+Fails (UnknownFunction at) written = ⊥

@@ -1,6 +1,7 @@
 //! Why bytes are no views.
 
 use fc_numbers::memory::NoMemory;
+use guest_input::image::Start;
 use std::alloc::AllocError;
 use std::fmt::{self, Display, Formatter, Write};
 
@@ -13,8 +14,8 @@ pub enum ViewFault {
     Shape,
     /// 3: the views are those of another kernel text.
     OtherText,
-    /// 4: no function of the kernel begins at this offset, the least such one that is listed.
-    UnknownFunction(u32),
+    /// 4: no function of the kernel starts here; the least such start that is listed.
+    UnknownFunction(Start),
     /// 5: there are more than 15 apps.
     TooManyApps,
     /// 6: a name is none of an app, or two apps have it.
@@ -56,7 +57,9 @@ impl Display for ViewFault {
             ViewFault::NotJson => f.write_str("1 NotJson"),
             ViewFault::Shape => f.write_str("2 Shape"),
             ViewFault::OtherText => f.write_str("3 OtherText"),
-            ViewFault::UnknownFunction(offset) => write!(f, "4 UnknownFunction {offset}"),
+            ViewFault::UnknownFunction(at) => {
+                write!(f, "4 UnknownFunction {} {}", at.range, at.offset)
+            }
             ViewFault::TooManyApps => f.write_str("5 TooManyApps"),
             ViewFault::BadName => f.write_str("6 BadName"),
             ViewFault::NoMemory => f.write_str("7 NoMemory"),

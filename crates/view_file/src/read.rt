@@ -2,20 +2,18 @@
 
 ghost use Rattle.std.specs.Prelude.{◌≡◌, Ok, true, false, IfOk, IfErr, MatchOption, map, length};
 ghost use Rattle.std.specs.List.{list_all};
-ghost use Rattle.function_table.specs.Groups.{groups_of};
-ghost use Rattle.guest_image.specs.Accepted.{offsets_of};
-ghost use Rattle.view_file.specs.Base.{is_function, all_listed};
+ghost use Rattle.function_table.specs.Groups.{groups_of, is_function};
+ghost use Rattle.view_file.specs.Base.{all_listed};
 ghost use Rattle.view_file.specs.Least.{IsLeastOf, lesser_of};
 ghost use Rattle.view_file.specs.Fits.{IsViewsOf, Parses, Reads};
 ghost use Rattle.view_file.specs.Written.{named_well, shaped_of, Fails};
 
 use crate::fault::ViewFault;
 use crate::named::{apps_of, in_order};
-use crate::views::{APPS_MOST, Views, place_of};
+use crate::views::{Apps, Views};
 use crate::written::{Written, shaped};
-use elf_read::parts::Function;
 use function_table::table::Table;
-use guest_image::image::Image;
+use guest_input::image::{Image, Start};
 use std::alloc::Global;
 
 /// The views that are written, where the names are names of apps and there are few enough apps.
@@ -26,9 +24,9 @@ fn views_of(alloc: Global, written: &Written) -> Result<Views, ViewFault>
     let Some(apps) = apps_of(alloc, written.apps.as_slice())? else {
         return Err(ViewFault::BadName);
     };
-    if apps.len() > APPS_MOST {
+    let Some(apps) = Apps::of(apps) else {
         return Err(ViewFault::TooManyApps);
-    }
+    };
     let shared = in_order(alloc, written.shared.as_slice())?;
     Ok(Views {
         text: written.text,
@@ -45,52 +43,36 @@ pub fn parse_views(alloc: Global, bytes: &[u8]) -> Result<Views, ViewFault>
     views_of(alloc, &written)
 }
 
-/// Whether a function begins at this offset.
-fn begins(functions: &[Function], table: &Table, offset: u32) -> bool
-    requires { table.now.functions ≡ offsets_of functions.now }
-    ensures { result ≡ is_function table.now.functions offset }
-{
-    match table.function_at(place_of(table, offset)) {
-        Some(n) => functions[n as usize].offset == offset,
-        None => false,
-    }
-}
-
-fn lesser(a: Option<u32>, b: Option<u32>) -> Option<u32>
+fn lesser(a: Option<Start>, b: Option<Start>) -> Option<Start>
     ensures { result ≡ lesser_of a b }
 {
     match (a, b) {
-        (Some(m), Some(n)) => Some(m.min(n)),
-        (Some(m), None) => Some(m),
+        (Some(a), Some(b)) => Some(a.min(b)),
+        (Some(a), None) => Some(a),
         (None, b) => b,
     }
 }
 
-/// The least of these offsets at which no function begins.
-fn least_unknown(functions: &[Function], table: &Table, offsets: &[u32]) -> Option<u32>
-    requires { table.now.functions ≡ offsets_of functions.now }
-    ensures { IsLeastOf table.now.functions offsets.now result }
+/// The least of these starts at which no function of the table begins.
+fn least_unknown(table: &Table, starts: &[Start]) -> Option<Start>
+    ensures { IsLeastOf (is_function table.now) starts.now result }
 {
     let mut least = None;
-    for offset in offsets {
-        if !begins(functions, table, *offset) {
-            least = lesser(least, Some(*offset));
+    for at in starts {
+        if !table.is_function(*at) {
+            least = lesser(least, Some(*at));
         }
     }
     least
 }
 
-/// The least of all listed offsets at which no function begins.
-fn least_listed(functions: &[Function], table: &Table, views: &Views) -> Option<u32>
-    requires { table.now.functions ≡ offsets_of functions.now }
-    ensures { IsLeastOf table.now.functions (all_listed views.now) result }
+/// The least of all listed starts at which no function of the table begins.
+fn least_listed(table: &Table, views: &Views) -> Option<Start>
+    ensures { IsLeastOf (is_function table.now) (all_listed views.now) result }
 {
-    let mut least = least_unknown(functions, table, views.shared.as_slice());
+    let mut least = least_unknown(table, views.shared.as_slice());
     for app in views.apps.as_slice() {
-        least = lesser(
-            least,
-            least_unknown(functions, table, app.functions.as_slice()),
-        );
+        least = lesser(least, least_unknown(table, app.functions.as_slice()));
     }
     least
 }
@@ -110,8 +92,8 @@ pub fn read_views(
     if views.text != image.digest {
         return Err(ViewFault::OtherText);
     }
-    match least_listed(image.functions.as_slice(), table, &views) {
-        Some(offset) => Err(ViewFault::UnknownFunction(offset)),
+    match least_listed(table, &views) {
+        Some(at) => Err(ViewFault::UnknownFunction(at)),
         None => Ok(views),
     }
 }

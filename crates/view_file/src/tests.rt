@@ -1,59 +1,117 @@
-//! Views files of a kernel whose functions begin at the offsets 0 and 12, worked out by hand.
+//! Views files of a kernel of two ranges, worked out by hand: its functions start at the bytes 0 and 12 of range 0, and at
+//! byte 0 of range 1.
 
-ghost use Rattle.std.specs.Prelude.{◌≡◌, IfOk};
+ghost use Rattle.std.specs.Prelude.{[], ◌∷◌, ◌≡◌, ◌+◌, IfOk, length};
 ghost use Rattle.function_table.specs.Groups.{groups_of};
-ghost use Rattle.guest_image.specs.Accepted.{IsImage};
+ghost use Rattle.guest_input.specs.Accepted.{IsImage};
 
 use crate::read::read_views;
-use elf_read::parts::Function;
+use crate::views::Views;
 use fc_numbers::memory::NoMemory;
 use fc_numbers::name::Name;
+use fc_numbers::places::{Gpa, Span};
 use fc_numbers::shared::SharedBytes;
+use fc_numbers::spans::Spans;
 use function_table::table::Table;
-use guest_image::image::Image;
+use guest_input::image::{Function, Image, Start};
+use guest_input::ranges::Ranges;
 use sqlite_items::Items;
 use std::alloc::{AllocError, Global};
 use std::test::Fail;
 
 const DIGEST: &str = "abababababababababababababababababababababababababababababababab";
 
-fn function(alloc: Global, offset: u32) -> Result<Function, NoMemory>
-    ensures { IfOk result (λ f. f.offset ≡ offset) }
+/// The place at which the kernel begins.
+const BASE: u64 = 0x8000_0000;
+
+fn function(range: u8, offset: u32, alloc: Global) -> Function
+    ensures { result.at ≡ record { range = range; offset = offset } }
 {
-    Ok(Function {
-        offset,
-        name: Items::from_slice(alloc, b"f")?,
-    })
+    Function {
+        at: Start { range, offset },
+        name: Items::new(alloc),
+    }
+}
+
+/// Two pages, with a page between them.
+fn two_pages() -> Spans
+    ensures { result.items ≡ record { start = BASE; end = BASE + 4096 } ∷ record { start = BASE + 8192; end = BASE + 12288 } ∷ [] }
+{
+    let mut spans = Spans::new();
+    spans.push(Span {
+        start: Gpa(BASE),
+        end: Gpa(BASE + 4096),
+    });
+    spans.push(Span {
+        start: Gpa(BASE + 8192),
+        end: Gpa(BASE + 12288),
+    });
+    spans
+}
+
+/// The bytes of the two pages, all zero.
+fn zeros(alloc: Global) -> Result<Vec<u8>, NoMemory>
+    ensures { IfOk result (λ bytes. length bytes.items ≡ 8192) }
+{
+    Ok(vec![in alloc; 0; 8192]?)
 }
 
 fn kernel(alloc: Global) -> Result<Image, NoMemory>
     ensures { IfOk result IsImage }
 {
-    let text = SharedBytes::from_vec(vec![in alloc; 0; 4096]?)?;
+    let bytes = zeros(alloc)?;
+    let text = SharedBytes::from_vec(bytes)?;
     let mut functions = Items::new(alloc);
-    functions.push(function(alloc, 0)?)?;
-    functions.push(function(alloc, 12)?)?;
+    functions.push(function(0, 0, alloc))?;
+    functions.push(function(0, 12, alloc))?;
+    functions.push(function(1, 0, alloc))?;
     Ok(Image {
-        base: 0x8000_0000,
-        entry: 0x8000_0000,
-        text,
+        entry: BASE,
+        ranges: Ranges::of(two_pages(), text),
         parts: Items::new(alloc),
         functions,
         digest: [0xab; 32],
     })
 }
 
-/// The text of a views file of version 1.
-fn file(alloc: Global, apps: &str, shared: &str, text: &str) -> Result<String, AllocError> {
-    format!(in alloc; "{{\"version\":1,\"text\":\"{text}\",\"shared\":{shared},\"apps\":{apps}}}")
+/// The text of a views file of this version.
+fn file(
+    alloc: Global,
+    version: &str,
+    apps: &str,
+    shared: &str,
+    text: &str,
+) -> Result<String, AllocError> {
+    format!(in alloc; "{{\"version\":{version},\"text\":\"{text}\",\"shared\":{shared},\"apps\":{apps}}}")
 }
 
-/// How reading ends: the number of apps, or the fault.
+/// Adds a name and the starts that are listed under it, each as range, `+` and offset.
+fn show_starts(shown: &mut String, name: &str, starts: &[Start], alloc: Global) -> Result<(), AllocError> {
+    shown.push_str(name)?;
+    for at in starts {
+        let start = format!(in alloc; " {}+{}", at.range, at.offset)?;
+        shown.push_str(start.as_str())?;
+    }
+    shown.push_str("; ")
+}
+
+/// What the views list.
+fn show_views(alloc: Global, views: &Views) -> Result<String, AllocError> {
+    let mut shown = String::new(alloc);
+    show_starts(&mut shown, "all", views.shared.as_slice(), alloc)?;
+    for app in views.apps.as_slice() {
+        let name = String::from_utf8_lossy(alloc, app.name.bytes())?;
+        show_starts(&mut shown, name.as_str(), app.functions.as_slice(), alloc)?;
+    }
+    Ok(shown)
+}
+
+/// How reading ends: what the views list, or the fault.
 fn ends(alloc: Global, bytes: &[u8], image: &Image, table: &Table) -> Result<String, AllocError>
     requires { table.now ≡ groups_of image.now }
 {
     match read_views(alloc, bytes, image, table) {
-        Ok(views) => format!(in alloc; "{}", views.apps.len()),
+        Ok(views) => show_views(alloc, &views),
         Err(fault) => format!(in alloc; "{fault}"),
     }
 }
@@ -78,8 +136,42 @@ fn sixteenth_app_is_refused(rt: HostRuntime) -> Result<(), Fail> {
     let alloc = rt.alloc();
     let image = kernel(alloc)?;
     let table = Table::of(alloc, &image)?;
-    for (count, want) in [(15, "15"), (16, "5 TooManyApps")] {
-        let bytes = file(alloc, many(alloc, count)?.as_str(), "[]", DIGEST)?;
+    for (count, refused) in [(15, false), (16, true)] {
+        let bytes = file(alloc, "1", many(alloc, count)?.as_str(), "[]", DIGEST)?;
+        let ended = ends(alloc, bytes.as_bytes(), &image, &table)?;
+        assert_eq!(rt; ended.as_str() == "5 TooManyApps", refused);
+    }
+    Ok(())
+}
+
+#[test]
+fn both_versions_write_the_same_views(rt: HostRuntime) -> Result<(), Fail> {
+    let alloc = rt.alloc();
+    let image = kernel(alloc)?;
+    let table = Table::of(alloc, &image)?;
+    for (version, apps, shared, want) in [
+        ("1", "[]", "[]", "all; "),
+        ("2", "[]", "[]", "all; "),
+        (
+            "1",
+            "[{\"functions\":[12,0,12],\"name\":\"vi\"},{\"functions\":[],\"name\":\"sh\"}]",
+            "[12]",
+            "all 0+12; sh; vi 0+0 0+12; ",
+        ),
+        (
+            "2",
+            "[{\"functions\":[[0,12],[0,0],[0,12]],\"name\":\"vi\"},{\"functions\":[],\"name\":\"sh\"}]",
+            "[[0,12]]",
+            "all 0+12; sh; vi 0+0 0+12; ",
+        ),
+        (
+            "2",
+            "[{\"functions\":[[1,0],[0,12],[1,0]],\"name\":\"sh\"}]",
+            "[[1,0],[0,0]]",
+            "all 0+0 1+0; sh 0+12 1+0; ",
+        ),
+    ] {
+        let bytes = file(alloc, version, apps, shared, DIGEST)?;
         let ended = ends(alloc, bytes.as_bytes(), &image, &table)?;
         assert_eq!(rt; ended.as_str(), want);
     }
@@ -91,58 +183,48 @@ fn first_fault_is_answered(rt: HostRuntime) -> Result<(), Fail> {
     let alloc = rt.alloc();
     let image = kernel(alloc)?;
     let table = Table::of(alloc, &image)?;
-    let other = "00abababababababababababababababababababababababababababababab";
-    for (apps, shared, text, want) in [
-        ("[]", "[]", DIGEST, "0"),
+    let none = "[]";
+    let short = "00abababababababababababababababababababababababababababababab";
+    let other = "00ababababababababababababababababababababababababababababababab";
+    for (version, apps, shared, text, want) in [
+        ("1", "[", none, DIGEST, "1 NotJson"),
+        ("0", none, none, DIGEST, "2 Shape"),
+        ("3", none, none, DIGEST, "2 Shape"),
+        ("1.0", none, none, DIGEST, "2 Shape"),
+        ("\"1\"", none, none, DIGEST, "2 Shape"),
+        ("1", none, none, short, "2 Shape"),
+        ("1", none, "[0],\"more\":1", DIGEST, "2 Shape"),
+        ("1", none, "[-1]", DIGEST, "2 Shape"),
+        ("1", none, "[4294967296]", DIGEST, "2 Shape"),
+        ("1", none, "[[0,0]]", DIGEST, "2 Shape"),
+        ("2", none, "[0]", DIGEST, "2 Shape"),
+        ("2", none, "[[0,0,0]]", DIGEST, "2 Shape"),
+        ("2", none, "[[4,0]]", DIGEST, "2 Shape"),
+        ("2", none, "[[0,4294967296]]", DIGEST, "2 Shape"),
+        ("2", "[{\"functions\":[0],\"name\":\"s h\"}]", none, DIGEST, "2 Shape"),
+        ("2", "[{\"functions\":[],\"name\":7}]", none, DIGEST, "2 Shape"),
+        ("2", "[{\"functions\":[],\"name\":\"s h\"}]", none, other, "6 BadName"),
+        ("2", "[{\"functions\":[],\"name\":\"\"}]", none, other, "6 BadName"),
         (
-            "[{\"functions\":[12,0,12],\"name\":\"sh\"}]",
-            "[12]",
-            DIGEST,
-            "1",
-        ),
-        (
-            "[{\"functions\":[2],\"name\":\"sh\"}]",
-            "[]",
-            DIGEST,
-            "4 UnknownFunction 2",
-        ),
-        (
-            "[{\"functions\":[0,14],\"name\":\"sh\"}]",
-            "[4096,13]",
-            DIGEST,
-            "4 UnknownFunction 13",
-        ),
-        (
-            "[{\"functions\":[2],\"name\":\"sh\"}]",
-            "[]",
-            other,
-            "2 Shape",
-        ),
-        (
-            "[{\"functions\":[2],\"name\":\"s h\"}]",
-            "[]",
-            DIGEST,
-            "6 BadName",
-        ),
-        (
+            "2",
             "[{\"functions\":[],\"name\":\"sh\"},{\"functions\":[],\"name\":\"sh\"}]",
-            "[]",
+            none,
             DIGEST,
             "6 BadName",
         ),
+        ("2", none, "[[0,2]]", other, "3 OtherText"),
+        ("1", none, "[4294967295,2]", DIGEST, "4 UnknownFunction 0 2"),
+        ("2", none, "[[3,4294967295]]", DIGEST, "4 UnknownFunction 3 4294967295"),
+        ("2", none, "[[1,12],[0,4096]]", DIGEST, "4 UnknownFunction 0 4096"),
         (
-            "[{\"functions\":[],\"name\":\"\"}]",
-            "[]",
+            "2",
+            "[{\"functions\":[[1,2]],\"name\":\"sh\"},{\"functions\":[[0,14]],\"name\":\"vi\"}]",
+            "[[2,0]]",
             DIGEST,
-            "6 BadName",
+            "4 UnknownFunction 0 14",
         ),
-        ("[{\"functions\":[],\"name\":7}]", "[]", DIGEST, "2 Shape"),
-        ("[]", "[4294967296]", DIGEST, "2 Shape"),
-        ("[]", "[-1]", DIGEST, "2 Shape"),
-        ("[]", "[0],\"more\":1", DIGEST, "2 Shape"),
-        ("[", "[]", DIGEST, "1 NotJson"),
     ] {
-        let bytes = file(alloc, apps, shared, text)?;
+        let bytes = file(alloc, version, apps, shared, text)?;
         let ended = ends(alloc, bytes.as_bytes(), &image, &table)?;
         assert_eq!(rt; ended.as_str(), want);
     }
@@ -154,15 +236,15 @@ fn names_have_views_and_bases(rt: HostRuntime) -> Result<(), Fail> {
     let alloc = rt.alloc();
     let image = kernel(alloc)?;
     let table = Table::of(alloc, &image)?;
-    let apps = "[{\"functions\":[],\"name\":\"vi\"},{\"functions\":[12,12],\"name\":\"sh\"}]";
-    let bytes = file(alloc, apps, "[]", DIGEST)?;
+    let apps = "[{\"functions\":[[1,0]],\"name\":\"vi\"},{\"functions\":[[0,12],[0,12]],\"name\":\"sh\"}]";
+    let bytes = file(alloc, "2", apps, "[]", DIGEST)?;
     let Ok(views) = read_views(alloc, bytes.as_bytes(), &image, &table) else {
         panic!(rt; "the views are refused");
     };
     for (name, view, base) in [
-        (b"sh".as_slice(), 1, [false, true]),
-        (b"vi".as_slice(), 2, [false, false]),
-        (b"ed".as_slice(), 0, [true, true]),
+        (b"sh".as_slice(), 1, [false, true, false]),
+        (b"vi".as_slice(), 2, [false, false, true]),
+        (b"ed".as_slice(), 0, [true, true, true]),
     ] {
         let name = Name::of(name);
         let number = views.choose(name.as_ref());

@@ -1,35 +1,98 @@
 //! Views, the view of an app name, and the base of a view.
 
-ghost use Rattle.std.specs.Prelude.{◌≡◌, ◌≤◌, ◌<◌, ◌+◌, ◌||◌, ℕ, true, false, length, IfOk, IfSome, slice_index_or, option_copied, replicate};
+ghost use Rattle.std.specs.Prelude.{◌≡◌, ◌≤◌, ◌<◌, ◌+◌, ◌||◌, ℕ, true, false, length, [], IfOk, IfSome, MatchOption, slice_index_or, option_copied, replicate};
 ghost use Rattle.std.specs.List.{list_all};
-ghost use Rattle.function_table.specs.Groups.{IsGroups, group_in, groups_count};
-ghost use Rattle.view_file.specs.Base.{is_function, all_listed, base_of, holds_one, functions_of};
+ghost use Rattle.function_table.specs.Groups.{groups_count, is_function};
+ghost use Rattle.view_file.specs.Base.{all_listed, base_of, functions_of, group_of_start, holds_one};
 ghost use Rattle.view_file.specs.Named.{view_named, position_of};
+ghost use Rattle.view_file.specs.declared.views.TheConstants.{APPS_MOST};
 
 use fc_numbers::memory::NoMemory;
 use fc_numbers::name::Name;
-use fc_numbers::places::{Gpa, GroupNo, ViewNo};
+use fc_numbers::places::{GroupNo, ViewNo};
+use fc_numbers::spans::place_of;
 use function_table::table::Table;
+use guest_input::image::Start;
 use sqlite_items::Items;
 use std::alloc::Global;
+use std::marker::Model;
 
 /// The most apps that views may have: views 1 to 15.
 pub const APPS_MOST: usize = 15;
 
-/// The functions of one app: offsets in text, in order, each once.
+/// The functions of one app.
 #[derive(Drop)]
 pub struct App {
     pub name: Name,
-    pub functions: Items<u32>,
+    /// The starts of the functions, in order, each once.
+    pub functions: Items<Start>,
 }
 
-/// The views of one kernel text. `text` is the digest of the kernel's image, `shared` the offsets of the functions that
-/// every app may run, in order, each once; `apps` stand in order of their names' bytes, each name once.
+/// Apps, at most 15. In contracts they are their list.
+#[derive(Drop)]
+pub struct Apps {
+    apps: Items<App>,
+}
+
+impl Model for Apps {
+    ghost use Rattle.std.specs.Prelude.{List, ◌≤◌, length};
+    ghost use Rattle.view_file.specs.declared.views.App.{App};
+    ghost use Rattle.view_file.specs.declared.views.TheConstants.{APPS_MOST};
+
+    ghost Value = { List App };
+
+    ghost view = { λ it. it.apps };
+
+    ghost invariant = { λ it. length it.apps ≤ APPS_MOST };
+}
+
+impl Apps {
+    /// No apps.
+    pub fn none(alloc: Global) -> Apps
+        ensures { result ≡ [] }
+    {
+        Apps {
+            apps: Items::new(alloc),
+        }
+    }
+
+    /// These apps, or None where they are too many.
+    pub fn of(apps: Items<App>) -> Option<Apps>
+        ensures value { MatchOption result (APPS_MOST < length apps) (λ few. few ≡ apps) }
+        ensures few { IfSome result (λ few. length few ≤ APPS_MOST) }
+    {
+        if apps.len() > APPS_MOST {
+            return None;
+        }
+        Some(Apps { apps })
+    }
+
+    /// The apps.
+    pub fn as_slice(&self) -> &[App]
+        ensures value { result.now ≡ self.now }
+        ensures few { length self.now ≤ APPS_MOST }
+    {
+        self.apps.as_slice()
+    }
+
+    /// How many apps there are.
+    pub fn len(&self) -> usize
+        ensures value { result ≡ length self.now }
+        ensures few { result ≤ APPS_MOST }
+    {
+        self.apps.len()
+    }
+}
+
+/// The views of one kernel text.
 #[derive(Drop)]
 pub struct Views {
+    /// The digest of the kernel's image.
     pub text: [u8; 32],
-    pub shared: Items<u32>,
-    pub apps: Items<App>,
+    /// The starts of the functions that every app may run, in order, each once.
+    pub shared: Items<Start>,
+    /// The apps in order of their names' bytes, each name once.
+    pub apps: Apps,
 }
 
 fn named(apps: &[App], name: &[u8]) -> Option<usize>
@@ -45,44 +108,38 @@ fn filled(alloc: Global, truth: bool, count: usize) -> Result<Vec<bool>, NoMemor
     Ok(vec![in alloc; truth; count]?)
 }
 
-fn functions_at(apps: &[App], at: usize) -> &[u32]
+fn functions_at(apps: &[App], at: usize) -> &[Start]
     requires { at < length apps.now }
     ensures { result.now ≡ functions_of apps.now at }
 {
     apps[at].functions.as_slice()
 }
 
-/// The place of an offset in text.
-pub(crate) fn place_of(table: &Table, offset: u32) -> Gpa
-    ensures value { result ≡ table.now.base + offset }
-    ensures lawful { IsGroups table.now }
-{
-    Gpa(table.text().start.0 + offset as u64)
-}
-
 /// The group of a function of the table.
-#[tactic(auto, using(crate::proofs::Functions::is_function_below))]
-fn group_of(table: &Table, offset: u32) -> GroupNo
-    requires { is_function table.now.functions offset ≡ true }
-    ensures value { result ≡ group_in table.now.starts offset }
+fn group_of(table: &Table, at: Start) -> GroupNo
+    requires { is_function table.now at ≡ true }
+    ensures value { result ≡ group_of_start table.now at }
     ensures within { result < groups_count table.now }
 {
-    match table.group_of(place_of(table, offset)) {
+    let Some(offset) = table.flat(at) else {
+        unreachable!()
+    };
+    match table.group_of(place_of(table.text(), offset as u64)) {
         Some(group) => group,
         None => unreachable!(),
     }
 }
 
 /// Marks the groups that hold one of these functions of the table.
-fn mark(groups: &mut Vec<bool>, functions: &[u32], table: &Table)
+fn mark(groups: &mut Vec<bool>, functions: &[Start], table: &Table)
     requires each { length groups.old.items ≡ groups_count table.now }
-    requires listed { list_all (is_function table.now.functions) functions.now ≡ true }
+    requires listed { list_all (is_function table.now) functions.now ≡ true }
     ensures len { length groups.new.items ≡ length groups.old.items }
     ensures marked { (g : ℕ) → slice_index_or groups.new.items g false
-        ≡ (slice_index_or groups.old.items g false || holds_one table.now.starts functions.now g) }
+        ≡ (slice_index_or groups.old.items g false || holds_one table.now functions.now g) }
 {
-    for offset in functions {
-        let group = group_of(table, *offset);
+    for at in functions {
+        let group = group_of(table, *at);
         groups[group.0 as usize] = true;
     }
 }
@@ -91,7 +148,6 @@ impl Views {
     /// The number of the view of this app name: that of the app of this name, from 1 on, or 0, the full view, where
     /// there is no name or no app of this name.
     pub fn choose(&self, name: Option<&Name>) -> ViewNo
-        requires { length self.now.apps ≤ APPS_MOST }
         ensures value { result ≡ view_named self.now (option_copied name.entry) }
         ensures within { result ≤ length self.now.apps }
     {
@@ -108,7 +164,7 @@ impl Views {
     /// The base of the full view is every group.
     pub fn base(&self, alloc: Global, v: ViewNo, table: &Table) -> Result<Vec<bool>, NoMemory>
         requires view { v ≤ length self.now.apps }
-        requires listed { list_all (is_function table.now.functions) (all_listed self.now) ≡ true }
+        requires listed { list_all (is_function table.now) (all_listed self.now) ≡ true }
         ensures { IfOk result (λ base. base.items ≡ base_of self.now table.now v) }
     {
         let count = table.groups() as usize;

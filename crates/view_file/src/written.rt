@@ -3,62 +3,103 @@
 ghost use Rattle.std.specs.Prelude.{◌≡◌, ◌≢◌, ◌↔◌, IsTrue, IfOk, IfErr, Ok, Err, Some, None, codes, map, option_map, length};
 ghost use Rattle.serde_json.specs.View.{view};
 ghost use Rattle.json_fields.specs.Fields.{whole_of, text_of, json_of, each_of};
-ghost use Rattle.view_file.specs.Written.{member_as, offset_of, offsets_of, digest_of, app_of, apps_of, written_of, shaped_of, Fails};
+ghost use Rattle.view_file.specs.Written.{member_as, start_in, start_of, starts_of, digest_of, app_of, apps_of, version_of, written_of, shaped_of, Fails};
 ghost use Rattle.view_file.specs.declared.fault.ViewFault.TheVariants.{NotJson, Shape};
+ghost use Rattle.view_file.specs.declared.written.Version.TheVariants.{One, Two};
 
 use crate::fault::ViewFault;
 use fc_numbers::memory::NoMemory;
+use fc_numbers::spans::RANGES_MOST;
+use guest_input::image::Start;
 use hex::FromHex;
-use json_fields::fields::{array, has_only, member, text, whole};
+use json_fields::fields::{array, has_only, member, pair, text, whole};
 use json_fields::parse::{Unread, parse};
 use serde_json::Value;
 use sqlite_items::Items;
 use std::alloc::Global;
 
-/// An app as it is written: its name, whatever it is, and the offsets of its functions.
+/// How a views file writes functions.
+#[derive(Debug, Clone, Copy, PartialEq, Eq)]
+pub enum Version {
+    /// 1: each as its offset in range 0 of text.
+    One,
+    /// 2: each as a range of text and the offset in it.
+    Two,
+}
+
+/// An app as it is written: its name, whatever it is, and the starts of its functions.
 #[derive(Drop)]
 pub struct WrittenApp {
     pub name: Items<u8>,
-    pub functions: Items<u32>,
+    pub functions: Items<Start>,
 }
 
-/// What a views file writes: the digest of a text, the offsets of the shared functions, and the apps.
+/// What a views file writes.
 #[derive(Drop)]
 pub struct Written {
+    /// The digest of a kernel's image.
     pub text: [u8; 32],
-    pub shared: Items<u32>,
+    /// The starts of the functions that all apps share.
+    pub shared: Items<Start>,
     pub apps: Items<WrittenApp>,
 }
 
-#[tactic(auto, unfolding(crate::specs::Written::offset_of))]
-fn offset(value: &Value) -> Option<u32>
-    ensures { result ≡ offset_of (view value.now) }
+/// The start of this range and offset, or None where no start has them.
+fn start_at(range: u64, offset: u64) -> Option<Start>
+    ensures { result ≡ start_in range offset }
 {
-    match whole(value) {
-        Some(number) if number < 0x1_0000_0000 => Some(number as u32),
-        _ => None,
+    if range >= RANGES_MOST as u64 || offset > u32::MAX as u64 {
+        return None;
+    }
+    Some(Start {
+        range: range as u8,
+        offset: offset as u32,
+    })
+}
+
+#[tactic(auto, unfolding(crate::specs::Written::start_of))]
+fn start_one(value: &Value) -> Option<Start>
+    ensures { result ≡ start_of One (view value.now) }
+{
+    start_at(0, whole(value)?)
+}
+
+#[tactic(auto, unfolding(crate::specs::Written::start_of))]
+fn start_two(value: &Value) -> Option<Start>
+    ensures { result ≡ start_of Two (view value.now) }
+{
+    let (range, offset) = pair(value)?;
+    start_at(whole(range)?, whole(offset)?)
+}
+
+fn start(version: Version, value: &Value) -> Option<Start>
+    ensures { result ≡ start_of version (view value.now) }
+{
+    match version {
+        Version::One => start_one(value),
+        Version::Two => start_two(value),
     }
 }
 
-fn each_offset(alloc: Global, items: &[Value]) -> Result<Option<Items<u32>>, NoMemory>
-    ensures { IfOk result (λ found. found ≡ each_of offset_of (map view items.now)) }
+fn each_start(alloc: Global, version: Version, items: &[Value]) -> Result<Option<Items<Start>>, NoMemory>
+    ensures { IfOk result (λ found. found ≡ each_of (start_of version) (map view items.now)) }
 {
     let mut found = Items::new(alloc);
     for item in items {
-        match offset(item) {
-            Some(offset) => found.push(offset)?,
+        match start(version, item) {
+            Some(at) => found.push(at)?,
             None => return Ok(None),
         }
     }
     Ok(Some(found))
 }
 
-#[tactic(auto, unfolding(crate::specs::Written::offsets_of))]
-fn offsets(alloc: Global, value: &Value) -> Result<Option<Items<u32>>, NoMemory>
-    ensures { IfOk result (λ found. found ≡ offsets_of (view value.now)) }
+#[tactic(auto, unfolding(crate::specs::Written::starts_of))]
+fn starts(alloc: Global, version: Version, value: &Value) -> Result<Option<Items<Start>>, NoMemory>
+    ensures { IfOk result (λ found. found ≡ starts_of version (view value.now)) }
 {
     match array(value) {
-        Some(items) => each_offset(alloc, items),
+        Some(items) => each_start(alloc, version, items),
         None => Ok(None),
     }
 }
@@ -73,11 +114,16 @@ fn digest(value: &Value) -> Option<[u8; 32]>
     }
 }
 
-fn offsets_at(alloc: Global, value: &Value, key: &str) -> Result<Option<Items<u32>>, NoMemory>
-    ensures { IfOk result (λ found. found ≡ member_as offsets_of key.now (view value.now)) }
+fn starts_at(
+    alloc: Global,
+    version: Version,
+    value: &Value,
+    key: &str,
+) -> Result<Option<Items<Start>>, NoMemory>
+    ensures { IfOk result (λ found. found ≡ member_as (starts_of version) key.now (view value.now)) }
 {
     match member(value, key) {
-        Some(found) => offsets(alloc, found),
+        Some(found) => starts(alloc, version, found),
         None => Ok(None),
     }
 }
@@ -101,8 +147,8 @@ fn name_at(alloc: Global, value: &Value) -> Result<Option<Items<u8>>, NoMemory>
 }
 
 #[tactic(auto, unfolding(crate::specs::Written::app_of))]
-fn app(alloc: Global, value: &Value) -> Result<Option<WrittenApp>, NoMemory>
-    ensures { IfOk result (λ found. found ≡ app_of (view value.now)) }
+fn app(alloc: Global, version: Version, value: &Value) -> Result<Option<WrittenApp>, NoMemory>
+    ensures { IfOk result (λ found. found ≡ app_of version (view value.now)) }
 {
     if !has_only(value, &["functions", "name"]) {
         return Ok(None);
@@ -110,18 +156,18 @@ fn app(alloc: Global, value: &Value) -> Result<Option<WrittenApp>, NoMemory>
     let Some(name) = name_at(alloc, value)? else {
         return Ok(None);
     };
-    let Some(functions) = offsets_at(alloc, value, "functions")? else {
+    let Some(functions) = starts_at(alloc, version, value, "functions")? else {
         return Ok(None);
     };
     Ok(Some(WrittenApp { name, functions }))
 }
 
-fn each_app(alloc: Global, items: &[Value]) -> Result<Option<Items<WrittenApp>>, NoMemory>
-    ensures { IfOk result (λ found. found ≡ each_of app_of (map view items.now)) }
+fn each_app(alloc: Global, version: Version, items: &[Value]) -> Result<Option<Items<WrittenApp>>, NoMemory>
+    ensures { IfOk result (λ found. found ≡ each_of (app_of version) (map view items.now)) }
 {
     let mut found = Items::new(alloc);
     for item in items {
-        match app(alloc, item)? {
+        match app(alloc, version, item)? {
             Some(app) => found.push(app)?,
             None => return Ok(None),
         }
@@ -130,20 +176,20 @@ fn each_app(alloc: Global, items: &[Value]) -> Result<Option<Items<WrittenApp>>,
 }
 
 #[tactic(auto, unfolding(crate::specs::Written::apps_of))]
-fn apps(alloc: Global, value: &Value) -> Result<Option<Items<WrittenApp>>, NoMemory>
-    ensures { IfOk result (λ found. found ≡ apps_of (view value.now)) }
+fn apps(alloc: Global, version: Version, value: &Value) -> Result<Option<Items<WrittenApp>>, NoMemory>
+    ensures { IfOk result (λ found. found ≡ apps_of version (view value.now)) }
 {
     match array(value) {
-        Some(items) => each_app(alloc, items),
+        Some(items) => each_app(alloc, version, items),
         None => Ok(None),
     }
 }
 
-fn apps_at(alloc: Global, value: &Value) -> Result<Option<Items<WrittenApp>>, NoMemory>
-    ensures { IfOk result (λ found. found ≡ member_as apps_of (codes "apps") (view value.now)) }
+fn apps_at(alloc: Global, version: Version, value: &Value) -> Result<Option<Items<WrittenApp>>, NoMemory>
+    ensures { IfOk result (λ found. found ≡ member_as (apps_of version) (codes "apps") (view value.now)) }
 {
     match member(value, "apps") {
-        Some(found) => apps(alloc, found),
+        Some(found) => apps(alloc, version, found),
         None => Ok(None),
     }
 }
@@ -157,16 +203,26 @@ fn digest_at(value: &Value) -> Option<[u8; 32]>
     }
 }
 
-fn version_at(value: &Value) -> Option<u64>
-    ensures { result ≡ member_as whole_of (codes "version") (view value.now) }
+fn version_in(value: &Value) -> Option<Version>
+    ensures { result ≡ version_of (view value.now) }
+{
+    match whole(value) {
+        Some(1) => Some(Version::One),
+        Some(2) => Some(Version::Two),
+        _ => None,
+    }
+}
+
+fn version_at(value: &Value) -> Option<Version>
+    ensures { result ≡ member_as version_of (codes "version") (view value.now) }
 {
     match member(value, "version") {
-        Some(found) => whole(found),
+        Some(found) => version_in(found),
         None => None,
     }
 }
 
-/// What a value writes, or None where it is no views file of version 1.
+/// What a value writes, or None where it is no views file of version 1 or 2.
 #[tactic(auto, unfolding(crate::specs::Written::written_of))]
 fn from_value(alloc: Global, value: &Value) -> Result<Option<Written>, NoMemory>
     ensures { IfOk result (λ found. found ≡ written_of (view value.now)) }
@@ -174,16 +230,16 @@ fn from_value(alloc: Global, value: &Value) -> Result<Option<Written>, NoMemory>
     if !has_only(value, &["apps", "shared", "text", "version"]) {
         return Ok(None);
     }
-    let Some(1) = version_at(value) else {
+    let Some(version) = version_at(value) else {
         return Ok(None);
     };
     let Some(text) = digest_at(value) else {
         return Ok(None);
     };
-    let Some(shared) = offsets_at(alloc, value, "shared")? else {
+    let Some(shared) = starts_at(alloc, version, value, "shared")? else {
         return Ok(None);
     };
-    let Some(apps) = apps_at(alloc, value)? else {
+    let Some(apps) = apps_at(alloc, version, value)? else {
         return Ok(None);
     };
     Ok(Some(Written { text, shared, apps }))

@@ -1,6 +1,8 @@
-use Rattle.std.proofs.Common.{◌≡◌, sym, ap, ◌∙◌}
+use Rattle.std.proofs.Common.{sym, subst, ◌∙◌}
 use Rattle.std.proofs.lemmas.Result.{err_from_is_err_and}
-use Rattle.guest_image.specs.Accepted.{offsets_of}
+use Rattle.function_table.specs.Groups.{groups_of, is_function}
+use Rattle.view_file.specs.Fits.{all_written}
+use Rattle.view_file.specs.Least.{IsLeastUnknown}
 use Rattle.view_file.proofs.Leasts.{fails_read, listed_same, least_same, text_same}
 use Rattle.view_file.proofs.read.read_views.Goals as goal
 
@@ -12,9 +14,9 @@ returns-in_err-views c =
 pub returns-in-Some : goal.returns-in-Some
 returns-in-Some c =
     let told = c.in_ok-views.ensures in
-    let functions : offsets_of c.args.image.now.functions ≡ c.args.table.now.functions = sym (ap (λ t. t.functions) c.requires) in (
+    let least = least_same (is_function c.args.table.now) _ _ c.in-Some.at (λ m. listed_same told.0 c.in_ok-views.views m told.2) c.in-Some.ensures in (
       told.0,
       told.1,
       sym told.2.text ∙ text_same _ _ c.if-ne.ensures,
-      rw functions (least_same c.args.table.now.functions _ _ c.in-Some.offset (λ m. listed_same told.0 c.in_ok-views.views m told.2) c.in-Some.ensures),
+      subst (λ t. IsLeastUnknown (is_function t) (all_written told.0) c.in-Some.at) c.requires least,
     )

@@ -5,10 +5,10 @@ use Rattle.view_file.proofs.written.each_app.Goals as goal
 
 pub returns-in-None : goal.returns-in-None
 returns-in-None c =
-    sym (each_of-stop app_of c.args.items.now c.loop-item.item-index c.item-item.result c.loop-item-test.true c.item-item.is (sym c.in_ok-app.ensures ∙ c.in-None.is))
+    sym (each_of-stop (app_of c.args.version) c.args.items.now c.loop-item.item-index c.item-item.result c.loop-item-test.true c.item-item.is (sym c.in_ok-app.ensures ∙ c.in-None.is))
 
 pub loop-item-preserved : goal.loop-item-preserved
 loop-item-preserved c =
-    each_of-next app_of c.args.items.now c.loop-item.item-index c.item-item.result c.loop-item.found c.in-Some.app
+    each_of-next (app_of c.args.version) c.args.items.now c.loop-item.item-index c.item-item.result c.loop-item.found c.in-Some.app
     c.loop-item-test.true c.item-item.is c.loop-item.invariant (sym c.in_ok-app.ensures ∙ c.in-Some.is)
     ∙ ap Some (sym c.in_ok-push-in-Some.ensures.ok)

@@ -5,4 +5,4 @@ use Rattle.view_file.specs.Written.{app_of}
 use Rattle.view_file.proofs.written.each_app.Given as goal
 
 abbrev pub invariant-loop-item : goal.invariant-loop-item
-invariant-loop-item l = each_of app_of (map view (take l.item-index l.items)) ≡ Some l.found
+invariant-loop-item l = each_of (app_of l.version) (map view (take l.item-index l.items)) ≡ Some l.found

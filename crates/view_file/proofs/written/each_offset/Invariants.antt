@@ -1,8 +1,0 @@
-use Rattle.std.proofs.Common.{◌≡◌, Some, map, take}
-use Rattle.serde_json.specs.View.{view}
-use Rattle.json_fields.specs.Fields.{each_of}
-use Rattle.view_file.specs.Written.{offset_of}
-use Rattle.view_file.proofs.written.each_offset.Given as goal
-
-abbrev pub invariant-loop-item : goal.invariant-loop-item
-invariant-loop-item l = each_of offset_of (map view (take l.item-index l.items)) ≡ Some l.found
