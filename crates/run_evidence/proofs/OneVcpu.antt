@@ -4,8 +4,8 @@ use Rattle.std.specs.Prelude.{is_none, IsSome, slice_index, slice_index_or}
 use Rattle.std.proofs.lemmas.Bool.Decides.{nat_tests}
 use Rattle.chain_log.specs.declared.entry.LogEntry.{LogEntry}
 use Rattle.fc_numbers.specs.declared.machine.End.{End}
-use Rattle.guest_image.specs.declared.image.Image.{Image}
-use Rattle.guest_image.specs.declared.setup.Setup.{Setup}
+use Rattle.guest_input.specs.declared.image.Image.{Image}
+use Rattle.guest_input.specs.declared.setup.Setup.{Setup}
 use Rattle.view_file.specs.Named.{view_named}
 use Rattle.guest_board.specs.Board.{State, may, name_of, ready_at, step_of, run_from}
 use Rattle.guest_board.specs.First.{first_state}

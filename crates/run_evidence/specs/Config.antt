@@ -1,9 +1,9 @@
 -- What a run is made of, and the full run of a schedule.
 -- The full kernel reads the original text; no view, window or recovery occurs in it.
 use Rattle.std.specs.Prelude.{◌≡◌, ℕ, ◌<◌, Bool, true, false, Option, List, length, take, slice_index, slice_index_or}
-use Rattle.guest_image.specs.declared.image.Image.{Image}
-use Rattle.guest_image.specs.declared.setup.Setup.{Setup}
-use Rattle.guest_image.specs.Accepted.{IsImage, IsSetupFor}
+use Rattle.guest_input.specs.declared.image.Image.{Image}
+use Rattle.guest_input.specs.declared.setup.Setup.{Setup}
+use Rattle.guest_input.specs.Accepted.{IsImage, IsSetupFor}
 use Rattle.function_table.specs.Groups.{Groups, groups_of}
 use Rattle.view_file.specs.declared.views.Views.{Views}
 use Rattle.view_file.specs.Named.{view_named}
