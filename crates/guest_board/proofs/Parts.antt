@@ -53,6 +53,7 @@ cut_again (r ∷ rs) =
   where
     take_front : (xs ys : List ℕ) → take (length xs) (xs ++ ys) ≡ xs
     take_front xs ys = grind (arith, common_steps)
+
     drop_front : (xs ys : List ℕ) → drop (length xs) (xs ++ ys) ≡ ys
     drop_front xs ys = grind (arith, common_steps)
 
@@ -100,9 +101,12 @@ pub lie_below : (low end : ℕ) (ss : List Span) → RAM_START ≤ low → AreRa
 lie_below low end [] above ranges high = tt
 lie_below low end (s ∷ ss) above ranges high =
     let here : in_text (s ∷ ss) (s.end - 1) ≡ true = rw (last_byte s ranges.1) refl in
-    let last : s.end - 1 < end = high (s.end - 1) here in
-    (omega (arith, above, ranges.0), omega (arith, ranges.1), omega (arith, last),
-     lie_below (s.end + 4096) end ss (omega (arith, above, ranges.0, ranges.1)) ranges.4 (λ place inside. high place (or_true (holds s place) (in_text ss place) inside)))
+    let last : s.end - 1 < end = high (s.end - 1) here in (
+      omega (arith, above, ranges.0),
+      omega (arith, ranges.1),
+      omega (arith, last),
+      lie_below (s.end + 4096) end ss (omega (arith, above, ranges.0, ranges.1)) ranges.4 (λ place inside. high place (or_true (holds s place) (in_text ss place) inside)),
+    )
   where
     or_true : (a b : Bool) → b ≡ true → (a || b) ≡ true
     or_true true b e = refl

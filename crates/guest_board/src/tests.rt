@@ -1,6 +1,6 @@
 //! A kernel of two functions, stepped by hand.
 
-ghost use Rattle.std.specs.Prelude.{◌≡◌, ◌≤◌, ◌+◌, [], ◌∷◌, IfOk};
+ghost use Rattle.std.specs.Prelude.{◌≡◌, ◌≤◌, ◌+◌, [], ◌∷◌, IfOk, length};
 ghost use Rattle.guest_input.specs.Accepted.{IsImage, IsSetupFor};
 ghost use Rattle.fc_numbers.specs.Spans.{IsTextBelow};
 ghost use Rattle.guest_input.specs.Text.{spans_of};
@@ -62,14 +62,32 @@ fn function(alloc: Global, range: u8, offset: u32) -> Function
     }
 }
 
+/// A page that begins with `PRINTS`.
+fn prints_page(alloc: Global) -> Result<Vec<u8>, NoMemory>
+    ensures { IfOk result (λ bytes. length bytes.items ≡ 4096) }
+{
+    let mut bytes = vec![in alloc; 0u8; 4096]?;
+    bytes[..24].copy_from_slice(&PRINTS);
+    Ok(bytes)
+}
+
+/// Two pages. The first begins with a jump to its last halfword, which begins a wide instruction.
+fn split_pages(alloc: Global) -> Result<Vec<u8>, NoMemory>
+    ensures { IfOk result (λ bytes. length bytes.items ≡ 8192) }
+{
+    let mut bytes = vec![in alloc; 0u8; 8192]?;
+    bytes[..4].copy_from_slice(&[0x6f, 0x00, 0xf0, 0x7f]);
+    bytes[4094..4097].copy_from_slice(&[0x97, 0x02, 0x01]);
+    Ok(bytes)
+}
+
 /// The kernel of `main` and `put`.
 fn kernel(alloc: Global) -> Result<Image, NoMemory>
     ensures image { IfOk result (λ image. IsImage image) }
     ensures spans { IfOk result (λ image. spans_of image.ranges ≡ record { start = BASE; end = BASE + 4096 } ∷ []) }
     ensures parts { IfOk result (λ image. image.parts ≡ []) }
 {
-    let mut bytes = vec![in alloc; 0u8; 4096]?;
-    bytes[..24].copy_from_slice(&PRINTS);
+    let bytes = prints_page(alloc)?;
     let mut functions = Items::new(alloc);
     functions.push(function(alloc, 0, 0))?;
     functions.push(function(alloc, 0, 12))?;
@@ -82,18 +100,13 @@ fn kernel(alloc: Global) -> Result<Image, NoMemory>
     })
 }
 
-/// A kernel of two ranges. The first jumps to its last halfword, which begins a wide instruction; the second begins
-/// with a halfword. A data part of two bytes and six zeros stands behind them.
+/// The kernel of two ranges that `split_pages` fills, with a function at the start of each.
 fn split_kernel(alloc: Global) -> Result<Image, NoMemory>
     ensures image { IfOk result (λ image. IsImage image) }
     ensures spans { IfOk result (λ image. spans_of image.ranges ≡ record { start = BASE; end = BASE + 4096 } ∷ record { start = BASE + 8192; end = BASE + 12288 } ∷ []) }
     ensures parts { IfOk result (λ image. image.parts ≡ []) }
 {
-    let mut bytes = vec![in alloc; 0u8; 8192]?;
-    bytes[..4].copy_from_slice(&[0x6f, 0x00, 0xf0, 0x7f]);
-    bytes[4094] = 0x97;
-    bytes[4095] = 0x02;
-    bytes[4096] = 0x01;
+    let bytes = split_pages(alloc)?;
     let mut functions = Items::new(alloc);
     functions.push(function(alloc, 0, 0))?;
     functions.push(function(alloc, 1, 0))?;
@@ -245,7 +258,12 @@ fn wide_instruction_ends_in_its_range(rt: HostRuntime) -> Result<(), Fail> {
     let mut board = Board::open(alloc, &image, &setup)?;
     assert!(rt; board.ram().in_text(Gpa(0x8000_2000)));
     assert!(rt; board.ram().load(Gpa(0x8000_2000), Width::Word) == Ok(1));
-    assert!(rt; matches!(board.step_full(VcpuNo(0)), Full::Stepped(Some(Gpa(0x8000_0000)))));
+    assert!(rt;
+        matches!(
+            board.step_full(VcpuNo(0)),
+            Full::Stepped(Some(Gpa(0x8000_0000)))
+        )
+    );
     assert!(rt; matches!(board.step_full(VcpuNo(0)), Full::Stepped(None)));
     assert!(rt; board.end() == Some(End::Stopped(Stop::KernelOutsideText)));
     assert!(rt; board.clock() == 2);

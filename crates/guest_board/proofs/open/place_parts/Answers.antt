@@ -1,4 +1,4 @@
-use Rattle.std.proofs.Common.{◌≡◌, ℕ, ◌+◌, ◌≤◌, List, length, arith}
+use Rattle.std.proofs.Common.{◌+◌, ◌≤◌, length, arith}
 use Rattle.fc_numbers.specs.declared.places.TheConstants.{RAM_START}
 use Rattle.guest_input.specs.Text.{spans_of}
 use Rattle.guest_input.specs.Accepted.{IsPartOf}
