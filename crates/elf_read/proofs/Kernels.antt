@@ -1,205 +1,260 @@
--- What is read has the facts of a kernel.
-use Rattle.std.proofs.Common.{◌≡◌, ℕ, zero, suc, ◌+◌, ◌-◌, ◌%◌, ◌<◌, ◌≤◌, ◌==◌, nat_le, Bool, true, false, not, ◌&&◌, List, [], ◌∷◌, length, map, drop, replicate, Result, Ok, Err, refl, sym, ap, subst, ◌∙◌, arith, length-append}
-use Rattle.std.specs.List.{filter, list_all, range_with_len}
-use Rattle.std.proofs.lemmas.List.{length-replicate, length-take-le, length-drop}
+-- What is accepted gives an image that may be run.
+use Rattle.std.proofs.Common.{◌≡◌, ℕ, ◌+◌, ◌-◌, ◌%◌, ◌<◌, ◌≤◌, ◌==◌, nat_le, nat_lt, Bool, true, false, not, ◌&&◌, ◌||◌, List, [], ◌∷◌, length, map, Option, Some, None, Result, Ok, Err, refl, sym, ap, ◌∙◌, subst, arith}
+use Rattle.std.specs.Prelude.{if◌then◌else◌, All, Contains, flat_map}
+use Rattle.std.specs.List.{list_all, list_any}
+use Rattle.std.proofs.lemmas.Option.{none-some, same_Some}
+use Rattle.std.proofs.lemmas.List.{length-map}
 use Rattle.std.proofs.lemmas.Bool.Decides.{nat_tests}
-use Rattle.fc_numbers.specs.declared.places.TheConstants.{RAM_START, RAM_MOST, PAGE}
-use Rattle.elf_read.specs.declared.read.TheConstants.{TEXT_MOST, FUNCTIONS_MOST}
-use Rattle.elf_read.specs.declared.fields.Header.{Header}
-use Rattle.elf_read.specs.declared.fields.ProgramHeader.{ProgramHeader}
+use Rattle.fc_numbers.specs.declared.places.Span.{Span}
+use Rattle.fc_numbers.specs.declared.places.TheConstants.{RAM_START, RAM_MOST}
+use Rattle.fc_numbers.specs.declared.spans.TheConstants.{RANGES_MOST, TEXT_MOST}
+use Rattle.fc_numbers.specs.Spans.{in_text, text_size, AreRangesFrom}
+use Rattle.guest_input.specs.declared.limits.TheConstants.{FUNCTIONS_MOST}
+use Rattle.guest_input.specs.declared.image.Image.{Image}
+use Rattle.guest_input.specs.declared.image.Function.{Function}
+use Rattle.guest_input.specs.Text.{Range, AreRanges, IsStartIn, span_of, spans_of, bytes_of, bytes_before}
+use Rattle.guest_input.specs.TextIn.{cut}
+use Rattle.guest_input.specs.Accepted.{starts_of, offsets_of, IsStarts, is_apart, IsPartOf, AllParts, IsImage}
+use Rattle.guest_input.proofs.Cut.{cut_spans, cut_bytes}
+use Rattle.elf_read.specs.declared.laid.Segment.{Segment}
+use Rattle.elf_read.specs.declared.laid.NamedPlace.{NamedPlace}
+use Rattle.elf_read.specs.declared.parts.ElfFault.TheVariants.{NoText, TooManyTexts, WritableText, Misplaced, OddFunction, TooLarge, TooManyFunctions, EntryOutside}
 use Rattle.elf_read.specs.declared.parts.ElfParts.{ElfParts}
-use Rattle.elf_read.specs.declared.parts.ElfFault.TheVariants.{NotElf, WrongKind, Truncated, Misplaced, OddFunction, TooLarge, TooManyFunctions, EntryOutside}
-use Rattle.elf_read.specs.Steps.{◌>>=◌, must}
-use Rattle.elf_read.specs.Starts.{functions_of, has_odd_start}
-use Rattle.elf_read.specs.Fields.{is_segment, is_executable, piece, header_of, segment_at, segments_in, sections_in}
-use Rattle.elf_read.specs.Elf.{is_inside, is_loaded, text_of, whole_pages, is_placed, is_apart, text_size, data_of, are_placed, segment_bytes, part_of, starts_in, functions_in, is_entry, kernel_of, kernel_in, laid_out, elf_of, has_mark, is_kind, are_tables, are_symbols, symbol_table, named_by}
-use Rattle.elf_read.specs.Kernel.{is_data_part, IsKernel}
-use Rattle.elf_read.proofs.Placing.{text_passes, text_some, passes-filter, filter_passes}
-
-bind_ok : {A B E : Type 0} (r : Result A E) (f : A → Result B E) (y : B) → (r >>= f) ≡ Ok y → (x : A) × (r ≡ Ok x) × (f x ≡ Ok y)
-bind_ok (Ok x) f y h = (x, refl, h)
-bind_ok (Err e) f y h = absurd cc
-
-must_ok : {E : Type 0} (e : E) (b x : Bool) → must e b ≡ Ok x → b ≡ true
-must_ok e true x h = refl
-must_ok e false x h = absurd cc
-
-same_Ok : {A E : Type 0} (x y : A) → ◌≡◌ {A = Result A E} (Ok x) (Ok y) → x ≡ y
-same_Ok x y h = cc
-
-both-left : (a b : Bool) → (a && b) ≡ true → a ≡ true
-both-left true b h = refl
-both-left false b h = h
-
-both-right : (a b : Bool) → (a && b) ≡ true → b ≡ true
-both-right true b h = h
-both-right false b h = cc
-
-is_false : (b : Bool) → not b ≡ true → b ≡ false
-is_false true h = sym h
-is_false false h = refl
-
--- ---- how long the bytes of a segment are
-
-piece-length : (file : List ℕ) (offset size : ℕ) → is_inside file offset size ≡ true → length (piece file offset size) ≡ size
-piece-length file offset zero inside = refl
-piece-length file offset (suc n) inside =
-    let fits : offset + suc n ≤ length file = grind (arith, nat_tests, inside) in
-    let left : suc n ≤ length (drop offset file) = omega (arith, length-drop offset file) in
-    length-take-le (suc n) (drop offset file) left
-
-bytes-length : (file : List ℕ) (p : ProgramHeader) (size : ℕ) → is_loaded file p ≡ true → p.p_filesz ≤ size → length (segment_bytes file p size) ≡ size
-bytes-length file p size inside fits =
-    let front = piece-length file p.p_offset p.p_filesz inside in
-    let zero_byte : ℕ = 0 in
-    let back = length-replicate (size - p.p_filesz) zero_byte in
-    omega (arith, length-append (piece file p.p_offset p.p_filesz) (replicate (size - p.p_filesz) 0), front, back)
+use Rattle.elf_read.specs.Laid.{Layout}
+use Rattle.elf_read.specs.Steps.{must, or_fault}
+use Rattle.elf_read.specs.Starts.{functions_in}
+use Rattle.elf_read.specs.Kernel.{is_text, is_in_ram, is_at_page, in_order, are_apart_from, pages_of, joined, text_spans, text_bytes, page_bytes, part_of, is_beside, are_in_place, are_placed, is_odd_in, is_even_in, entry_in, kernel_at, kernel_in, kernel_of_laid, image_with}
+use Rattle.elf_read.proofs.Tests.{both, is_false, eqb_true, leb_true, bind_ok, must_ok, or_fault_ok, same_Ok}
+use Rattle.elf_read.proofs.Segments.{InRam, in_ram, passes-in_order}
+use Rattle.elf_read.proofs.Texts.{IsCode, length-filled, ranges_same, spans_law, spans_few, spans_fit, text_law}
+use Rattle.elf_read.proofs.FunctionLaws.{functions_ascend, functions_heads, functions_inside}
 
 -- ---- data parts
 
-placed_of : (p : ProgramHeader) → is_placed p ≡ true → (p.p_filesz ≤ p.p_memsz) × (RAM_START ≤ p.p_paddr) × (p.p_paddr + p.p_memsz ≤ RAM_START + RAM_MOST)
-placed_of p h =
-    let a : p.p_filesz ≤ p.p_memsz = grind (arith, nat_tests, h) in
-    let b : RAM_START ≤ p.p_paddr = grind (arith, nat_tests, h) in
-    let c : p.p_paddr + p.p_memsz ≤ RAM_START + RAM_MOST = grind (arith, nat_tests, h) in
-    (a, b, c)
+part_law : (spans : List Span) (s : Segment) → is_in_ram s ≡ true → is_beside spans s ≡ true → IsPartOf spans (part_of s)
+part_law spans s inside apart =
+    let facts = in_ram s inside in
+    record { low = facts.low; high = omega (arith, facts.high, length-filled s.size s.bytes facts.fits); apart = apart }
 
-part_law : (file : List ℕ) (base size : ℕ) (p : ProgramHeader) → is_placed p ≡ true → is_loaded file p ≡ true → is_apart base size p ≡ true → is_data_part base size (part_of file p) ≡ true
-part_law file base size p placed loaded apart =
-    let facts = placed_of p placed in
-    let long : length (segment_bytes file p p.p_memsz) ≡ p.p_memsz = bytes-length file p p.p_memsz loaded facts.0 in
-    let low : nat_le RAM_START p.p_paddr ≡ true = grind (arith, nat_tests, facts.1) in
-    let high : nat_le (p.p_paddr + p.p_memsz) (RAM_START + RAM_MOST) ≡ true = grind (arith, nat_tests, facts.2) in
-    rw (long, low, high, apart) refl
+parts_law : (spans : List Span) (ss : List Segment) → list_all is_in_ram ss ≡ true → list_all (is_beside spans) ss ≡ true → AllParts spans (map part_of ss)
+parts_law spans [] inside apart = tt
+parts_law spans (s ∷ ss) inside apart =
+    let a = both (is_in_ram s) (list_all is_in_ram ss) inside in
+    let b = both (is_beside spans s) (list_all (is_beside spans) ss) apart in
+    (part_law spans s a.0 b.0, parts_law spans ss a.1 b.1)
 
-parts_law : (file : List ℕ) (base size : ℕ) (ps : List ProgramHeader) → list_all is_placed ps ≡ true → list_all (is_loaded file) ps ≡ true
-    → list_all (is_apart base size) ps ≡ true → list_all (is_data_part base size) (map (part_of file) ps) ≡ true
-parts_law file base size [] placed loaded apart = refl
-parts_law file base size (p ∷ ps) placed loaded apart =
-    let here : is_data_part base size (part_of file p) ≡ true =
-    part_law file base size p (both-left _ (list_all is_placed ps) placed) (both-left _ (list_all (is_loaded file) ps) loaded) (both-left _ (list_all (is_apart base size) ps) apart) in
-    let rest : list_all (is_data_part base size) (map (part_of file) ps) ≡ true =
-    parts_law file base size ps (both-right (is_placed p) _ placed) (both-right (is_loaded file p) _ loaded) (both-right (is_apart base size p) _ apart) in
-    ap (λ b. b && list_all (is_data_part base size) (map (part_of file) ps)) here ∙ rest
+-- ---- the first instruction
+
+even_in : (spans : List Span) (place : ℕ) → is_even_in spans place ≡ true → (in_text spans place ≡ true) × (place % 2 ≡ 0)
+even_in spans place h = let split = both (in_text spans place) (place % 2 == 0) h in (split.0, eqb_true (place % 2) 0 split.1)
+
+entry_at : (b : Bool) (spans : List Span) (place entry : ℕ) → is_even_in spans place ≡ b → (if b then Some place else None) ≡ Some entry → (in_text spans entry ≡ true) × (entry % 2 ≡ 0)
+entry_at true spans place entry is h = subst (λ p. (in_text spans p ≡ true) × (p % 2 ≡ 0)) (same_Some place entry h) (even_in spans place is)
+entry_at false spans place entry is h = absurd (none-some entry h)
+
+entry_law : (spans : List Span) (o : Option ℕ) (entry : ℕ) → entry_in spans o ≡ Some entry → (in_text spans entry ≡ true) × (entry % 2 ≡ 0)
+entry_law spans None entry h = absurd (none-some entry h)
+entry_law spans (Some place) entry h = entry_at (is_even_in spans place) spans place entry refl h
 
 -- ---- the kernel
 
-record Tests (h : Header) (text : ProgramHeader) (segments : List ProgramHeader) (named : List (ℕ × List ℕ)) : Type 0 where
-  all : list_all is_placed segments ≡ true
-  page : text.p_paddr % PAGE ≡ 0
-  apart : list_all (is_apart text.p_paddr (text_size text)) (data_of segments) ≡ true
-  even : has_odd_start (starts_in text named) ≡ false
-  small : text_size text ≤ TEXT_MOST
-  few : functions_in text named ≤ FUNCTIONS_MOST
-  entry_low : text.p_vaddr ≤ h.e_entry
-  entry_high : h.e_entry < text.p_vaddr + text_size text
-  entry_even : (h.e_entry - text.p_vaddr) % 2 ≡ 0
+-- the tests that an accepted kernel passed
+record Passed (l : Layout) (entry : ℕ) : Type 0 where
+  code : IsCode l.code
+  parts : list_all is_in_ram l.parts ≡ true
+  beside : list_all (is_beside (text_spans l.code)) l.parts ≡ true
+  even : list_any (is_odd_in (text_spans l.code)) l.named ≡ false
+  small : text_size (text_spans l.code) ≤ TEXT_MOST
+  few : length (functions_in 0 (text_spans l.code) l.named) ≤ FUNCTIONS_MOST
+  at : entry_in (text_spans l.code) l.entry ≡ Some entry
 
-placed_tests : (text : ProgramHeader) (segments : List ProgramHeader) → are_placed text segments ≡ true
-    → (list_all is_placed segments ≡ true) × (text.p_paddr % PAGE ≡ 0) × (list_all (is_apart text.p_paddr (text_size text)) (data_of segments) ≡ true)
-unfolding are_placed
-placed_tests text segments h =
-    let front : (list_all is_placed segments && (text.p_paddr % PAGE == 0)) ≡ true = both-left _ (list_all (is_apart text.p_paddr (text_size text)) (data_of segments)) h in
-    let page : (text.p_paddr % PAGE == 0) ≡ true = both-right (list_all is_placed segments) _ front in (
-      both-left _ (text.p_paddr % PAGE == 0) front,
-      grind (arith, nat_tests, page),
-      both-right (list_all is_placed segments && (text.p_paddr % PAGE == 0)) _ h,
-    )
+some_ranges : (spans : List Span) → 0 < text_size spans → 0 < length spans
+some_ranges [] some = absurd (omega (arith, some))
+some_ranges (s ∷ ss) some = omega arith
 
-entry_tests : (text : ProgramHeader) (entry : ℕ) → is_entry text entry ≡ true
-    → (text.p_vaddr ≤ entry) × (entry < text.p_vaddr + text_size text) × ((entry - text.p_vaddr) % 2 ≡ 0)
-unfolding is_entry
-entry_tests text entry h =
-    let a : text.p_vaddr ≤ entry = grind (arith, nat_tests, h) in
-    let b : entry < text.p_vaddr + text_size text = grind (arith, nat_tests, h) in
-    let c : (entry - text.p_vaddr) % 2 ≡ 0 = grind (arith, nat_tests, h) in
-    (a, b, c)
+length-spans : (rs : List Range) → length (spans_of rs) ≡ length rs
+length-spans rs = length-map rs span_of
 
-tests_of : (file : List ℕ) (h : Header) (text : ProgramHeader) (segments : List ProgramHeader) (named : List (ℕ × List ℕ)) (k : ElfParts)
-    → kernel_in file h text segments named ≡ Ok k → Tests h text segments named × (kernel_of file h text segments named ≡ k)
-unfolding kernel_in
-tests_of file h text segments named k e =
-    let a = bind_ok (must Misplaced (are_placed text segments)) _ k e in
-    let b = bind_ok (must OddFunction (not (has_odd_start (starts_in text named)))) _ k a.2 in
-    let c = bind_ok (must TooLarge (nat_le (text_size text) TEXT_MOST)) _ k b.2 in
-    let d = bind_ok (must TooManyFunctions (nat_le (functions_in text named) FUNCTIONS_MOST)) _ k c.2 in
-    let f = bind_ok (must EntryOutside (is_entry text h.e_entry)) _ k d.2 in
-    let placed = placed_tests text segments (must_ok Misplaced _ a.0 a.1) in
-    let entry = entry_tests text h.e_entry (must_ok EntryOutside _ f.0 f.1) in
-    let small : nat_le (text_size text) TEXT_MOST ≡ true = must_ok TooLarge _ c.0 c.1 in
-    let few : nat_le (functions_in text named) FUNCTIONS_MOST ≡ true = must_ok TooManyFunctions _ d.0 d.1 in (
-      record {
-        all = placed.0;
-        page = placed.1;
-        apart = placed.2;
-        even = is_false (has_odd_start (starts_in text named)) (must_ok OddFunction _ b.0 b.1);
-        small = grind (arith, nat_tests, small);
-        few = grind (arith, nat_tests, few);
-        entry_low = entry.0;
-        entry_high = entry.1;
-        entry_even = entry.2;
-      },
-      same_Ok _ k f.2,
-    )
-
-pages_law : (base memsz : ℕ) → base % PAGE ≡ 0 → base + memsz ≤ RAM_START + RAM_MOST → base + whole_pages memsz ≤ RAM_START + RAM_MOST
-pages_law base memsz page high = omega arith
-
-kernel_law : (file : List ℕ) (h : Header) (text : ProgramHeader) (segments : List ProgramHeader) (named : List (ℕ × List ℕ))
-    → text_of (filter is_executable segments) ≡ Ok text → 0 < text.p_memsz → list_all (is_loaded file) segments ≡ true
-    → Tests h text segments named → IsKernel (kernel_of file h text segments named)
-kernel_law file h text segments named chosen some loaded t =
-    let facts = placed_of text (text_passes is_placed segments text chosen t.all) in
-    let size : length (segment_bytes file text (text_size text)) ≡ text_size text =
-    bytes-length file text (text_size text) (text_passes (is_loaded file) segments text chosen loaded) (omega (arith, facts.0)) in
-    let P : ℕ → Type 0 = λ n. functions_of (starts_in text named) (text_size text) ≡ functions_of (starts_in text named) n in
-    let Q : ℕ → Type 0 = λ n. list_all (is_data_part text.p_paddr n) (map (part_of file) (data_of segments)) ≡ true in
-    let high : text.p_paddr + text_size text ≤ RAM_START + RAM_MOST = pages_law text.p_paddr text.p_memsz t.page facts.2 in
-    let others : list_all is_placed (data_of segments) ≡ true = passes-filter is_placed (λ p. not (is_executable p)) segments t.all in
-    let inside : list_all (is_loaded file) (data_of segments) ≡ true = passes-filter (is_loaded file) (λ p. not (is_executable p)) segments loaded in
+passed_law : (l : Layout) (entry : ℕ) (digest : List ℕ) → Passed l entry → IsImage (image_with digest (kernel_at l (text_spans l.code) entry))
+passed_law l entry digest p =
+    let spans = text_spans l.code in
+    let bytes = text_bytes l.code in
+    let lawful = text_law l.code p.code p.small in
+    let ranges = spans_law l.code p.code in
+    let first = entry_law spans l.entry entry p.at in
+    let same : spans_of (cut spans bytes) ≡ spans = cut_spans spans bytes lawful in
+    let same_bytes : bytes_of (cut spans bytes) ≡ bytes = cut_bytes spans bytes lawful in
+    let functions = functions_in 0 spans l.named in
+    let some : 0 < length spans = some_ranges spans (omega (arith, lawful.long, lawful.some)) in
     record {
-      page = t.page;
-      low = facts.1;
-      high = omega (arith, size, high);
-      some = omega (arith, size, some);
-      whole = ap (λ n. n % PAGE) size ∙ omega arith;
-      most = omega (arith, size, t.small);
-      starts = starts_in text named;
-      even = t.even;
-      functions = subst P (sym size) refl;
-      few = t.few;
-      entry_low = omega (arith, t.entry_low);
-      entry_high = omega (arith, size, t.entry_low, t.entry_high);
-      entry_even = omega (arith, t.page, t.entry_even, t.entry_low);
-      parts = subst Q (sym size) (parts_law file text.p_paddr (text_size text) (data_of segments) others inside t.apart);
+      text = subst (λ (x : List Span). AreRanges x (bytes_of (cut spans bytes))) (sym same) (subst (λ (y : List ℕ). AreRanges spans y) (sym same_bytes) lawful);
+      inside = subst (λ (x : List Span). All (IsStartIn x) (starts_of functions)) (sym same) (functions_inside spans RAM_START l.named ranges p.even);
+      starts = subst (λ (x : List Span). IsStarts (offsets_of x (starts_of functions)) (text_size x)) (sym same) (functions_ascend spans RAM_START l.named ranges some p.even);
+      heads = λ n within. subst (λ (x : List Span). Contains (offsets_of x (starts_of functions)) (bytes_before x n)) (sym same)
+        (functions_heads spans RAM_START n l.named ranges p.even (omega (arith, within, length-spans (cut spans bytes), ap (λ (x : List Span). length x) same)));
+      few = p.few;
+      entry = subst (λ (x : List Span). in_text x entry ≡ true) (sym same) first.0;
+      entry_even = first.1;
+      parts = subst (λ (x : List Span). AllParts x (map part_of l.parts)) (sym same) (parts_law spans l.parts p.parts p.beside);
     }
 
--- what the steps give is a kernel
-pub in_law : (file : List ℕ) (h : Header) (text : ProgramHeader) (segments : List ProgramHeader) (named : List (ℕ × List ℕ)) (k : ElfParts)
-    → text_of (filter is_executable segments) ≡ Ok text → 0 < text.p_memsz → list_all (is_loaded file) segments ≡ true
-    → kernel_in file h text segments named ≡ Ok k → IsKernel k
-in_law file h text segments named k chosen some loaded e =
-    let all = tests_of file h text segments named k e in
-    subst IsKernel all.1 (kernel_law file h text segments named chosen some loaded all.0)
+-- the tests of where code and data parts lie
+pub record Placed (code others : List Segment) : Type 0 where
+  pub inside : list_all is_in_ram code ≡ true
+  pub page : list_all is_at_page code ≡ true
+  pub parts : list_all is_in_ram others ≡ true
+  pub apart : are_apart_from RAM_START (in_order code) ≡ true
+  pub beside : list_all (is_beside (text_spans code)) others ≡ true
 
-laid_law : (file : List ℕ) (h : Header) (segments : List ProgramHeader) (named : List (ℕ × List ℕ)) (k : ElfParts)
-    → list_all is_segment segments ≡ true → list_all (is_loaded file) segments ≡ true → laid_out file h segments named ≡ Ok k → IsKernel k
-unfolding laid_out
-laid_law file h segments named k each loaded e =
-    let text = bind_ok (text_of (filter is_executable segments)) _ k e in
-    in_law file h text.0 segments named k text.1 (text_some segments text.0 text.1 each) loaded text.2
+pub in_place_law : (code parts : List Segment) → are_in_place code parts ≡ true → (list_all is_in_ram code ≡ true) × (list_all is_at_page code ≡ true) × (list_all is_in_ram parts ≡ true)
+in_place_law code parts h =
+    let outer = both (list_all is_in_ram code && list_all is_at_page code) (list_all is_in_ram parts) h in
+    let inner = both (list_all is_in_ram code) (list_all is_at_page code) outer.0 in
+    (inner.0, inner.1, outer.1)
 
--- what a file gives is a kernel
-pub elf_law : (file : List ℕ) (k : ElfParts) → elf_of file ≡ Ok k → IsKernel k
-unfolding elf_of
-elf_law file k e =
-    let h = header_of file in
-    let sections = sections_in file h in
-    let a = bind_ok (must NotElf (has_mark file)) _ k e in
-    let b = bind_ok (must WrongKind (is_kind file)) _ k a.2 in
-    let c = bind_ok (must Truncated (nat_le 64 (length file))) _ k b.2 in
-    let d = bind_ok (must Truncated (are_tables file h)) _ k c.2 in
-    let f = bind_ok (must Truncated (list_all (is_loaded file) (segments_in file h))) _ k d.2 in
-    let g = bind_ok (must Truncated (are_symbols file sections (symbol_table sections))) _ k f.2 in
-    laid_law file h (segments_in file h) (named_by file sections (symbol_table sections)) k
-    (filter_passes is_segment (map (segment_at file h) (range_with_len 0 h.e_phnum))) (must_ok Truncated _ f.0 f.1) g.2
+pub placed_law : (code parts : List Segment) → are_placed code parts ≡ true → Placed code parts
+unfolding are_placed
+placed_law code parts h =
+    let a = both (are_in_place code parts && are_apart_from RAM_START (in_order code)) (list_all (is_beside (text_spans code)) parts) h in
+    let b = both (are_in_place code parts) (are_apart_from RAM_START (in_order code)) a.0 in
+    let c = in_place_law code parts b.0 in
+    record { inside = c.0; page = c.1; parts = c.2; apart = b.1; beside = a.1 }
+
+in_law : (l : Layout) (k : ElfParts) (digest : List ℕ) → is_text l.code ≡ true → length l.code ≤ RANGES_MOST → Placed l.code l.parts → kernel_in l (text_spans l.code) ≡ Ok k
+    → IsImage (image_with digest k)
+unfolding kernel_in
+in_law l k digest text few placed h =
+    let spans = text_spans l.code in
+    let a = bind_ok (must OddFunction (not (list_any (is_odd_in spans) l.named))) _ k h in
+    let b = bind_ok (must TooLarge (nat_le (text_size spans) TEXT_MOST)) _ k a.2 in
+    let c = bind_ok (must TooManyFunctions (nat_le (length (functions_in 0 spans l.named)) FUNCTIONS_MOST)) _ k b.2 in
+    let d = bind_ok (or_fault EntryOutside (entry_in spans l.entry)) _ k c.2 in
+    subst (λ (x : ElfParts). IsImage (image_with digest x)) (same_Ok (kernel_at l spans d.0) k d.2)
+    (passed_law l d.0 digest (record {
+      code = record { text = text; few = few; inside = placed.inside; page = placed.page; apart = placed.apart };
+      parts = placed.parts;
+      beside = placed.beside;
+      even = is_false (list_any (is_odd_in spans) l.named) (must_ok OddFunction _ a.0 a.1);
+      small = leb_true (text_size spans) TEXT_MOST (must_ok TooLarge _ b.0 b.1);
+      few = leb_true (length (functions_in 0 spans l.named)) FUNCTIONS_MOST (must_ok TooManyFunctions _ c.0 c.1);
+      at = or_fault_ok EntryOutside (entry_in spans l.entry) d.0 d.1;
+    }))
+
+-- an accepted kernel gives an image with any digest
+pub laid_law : (l : Layout) (k : ElfParts) (digest : List ℕ) → kernel_of_laid l ≡ Ok k → IsImage (image_with digest k)
+unfolding kernel_of_laid
+laid_law l k digest h =
+    let a = bind_ok (must NoText (is_text l.code)) _ k h in
+    let b = bind_ok (must TooManyTexts (nat_le (length l.code) RANGES_MOST)) _ k a.2 in
+    let c = bind_ok (must WritableText (not l.writable)) _ k b.2 in
+    let d = bind_ok (must Misplaced (are_placed l.code l.parts)) _ k c.2 in
+    in_law l k digest (must_ok NoText (is_text l.code) a.0 a.1) (leb_true (length l.code) RANGES_MOST (must_ok TooManyTexts _ b.0 b.1)) (placed_law l.code l.parts (must_ok Misplaced (are_placed l.code l.parts) d.0 d.1)) d.2
+
+-- ---- which tests decide where code and data parts lie
+
+neither_left : (a b : Bool) → a ≡ false → (a && b) ≡ false
+neither_left a b h = ap (λ x. x && b) h
+
+neither_right : (a b : Bool) → b ≡ false → (a && b) ≡ false
+neither_right true b h = h
+neither_right false b h = refl
+
+pub not_in_place : (code parts : List Segment) → are_in_place code parts ≡ false → are_placed code parts ≡ false
+unfolding are_placed
+not_in_place code parts h =
+    neither_left (are_in_place code parts && are_apart_from RAM_START (in_order code)) (list_all (is_beside (text_spans code)) parts)
+    (neither_left (are_in_place code parts) (are_apart_from RAM_START (in_order code)) h)
+
+pub not_apart : (code parts : List Segment) → are_apart_from RAM_START (in_order code) ≡ false → are_placed code parts ≡ false
+unfolding are_placed
+not_apart code parts h =
+    neither_left (are_in_place code parts && are_apart_from RAM_START (in_order code)) (list_all (is_beside (text_spans code)) parts)
+    (neither_right (are_in_place code parts) (are_apart_from RAM_START (in_order code)) h)
+
+pub not_beside : (code parts : List Segment) → list_all (is_beside (text_spans code)) parts ≡ false → are_placed code parts ≡ false
+unfolding are_placed
+not_beside code parts h =
+    neither_right (are_in_place code parts && are_apart_from RAM_START (in_order code)) (list_all (is_beside (text_spans code)) parts) h
+
+pub all_placed : (code parts : List Segment) → are_in_place code parts ≡ true → are_apart_from RAM_START (in_order code) ≡ true → list_all (is_beside (text_spans code)) parts ≡ true
+    → are_placed code parts ≡ true
+unfolding are_placed
+all_placed code parts a b c = ap (λ x. (x && are_apart_from RAM_START (in_order code)) && list_all (is_beside (text_spans code)) parts) a
+    ∙ ap (λ x. x && list_all (is_beside (text_spans code)) parts) b ∙ c
+
+pub spans_are : (code : List Segment) → joined (map pages_of (in_order code)) ≡ text_spans code
+unfolding text_spans
+spans_are code = refl
+
+pub bytes_are : (code : List Segment) → flat_map page_bytes (in_order code) ≡ text_bytes code
+unfolding text_bytes
+bytes_are code = refl
+
+-- ---- what passed the tests, while it is put together
+
+pub code_law : (code parts : List Segment) → is_text code ≡ true → length code ≤ RANGES_MOST → are_placed code parts ≡ true → IsCode code
+code_law code parts text few placed =
+    let p = placed_law code parts placed in
+    record { text = text; few = few; inside = p.inside; page = p.page; apart = p.apart }
+
+-- what is known of the ranges that the text has
+pub record Laid (code sorted : List Segment) (ranges : List Span) : Type 0 where
+  pub page : AreRangesFrom RAM_START ranges
+  pub few : length ranges ≤ RANGES_MOST
+  pub fit : text_size ranges < 18446744073709551616
+  pub inside : list_all is_in_ram sorted ≡ true
+  pub text : text_size ranges ≤ TEXT_MOST → AreRanges ranges (flat_map page_bytes sorted)
+
+pub laid_text : (code sorted : List Segment) (ranges : List Span) → IsCode code → sorted ≡ in_order code → ranges ≡ text_spans code → Laid code sorted ranges
+laid_text code sorted ranges c order is = record {
+  page = subst (AreRangesFrom RAM_START) (sym is) (spans_law code c);
+  few = subst (λ (r : List Span). length r ≤ RANGES_MOST) (sym is) (spans_few code c);
+  fit = subst (λ (r : List Span). text_size r < 18446744073709551616) (sym is) (spans_fit code c);
+  inside = ap (list_all is_in_ram) order ∙ passes-in_order is_in_ram code c.inside;
+  text = λ small.
+    let here : text_size (text_spans code) ≤ TEXT_MOST = subst (λ (r : List Span). text_size r ≤ TEXT_MOST) is small in
+    subst (λ (r : List Span). AreRanges r (flat_map page_bytes sorted)) (sym is)
+    (subst (λ (ss : List Segment). AreRanges (text_spans code) (flat_map page_bytes ss)) (sym order) (subst (λ (bytes : List ℕ). AreRanges (text_spans code) bytes) (sym (bytes_are code)) (text_law code c here)));
+}
+
+-- what was put together is what the definition says
+pub record Made (l : Layout) (spans : List Span) (k : ElfParts) : Type 0 where
+  pub text : is_text l.code ≡ true
+  pub few : length l.code ≤ RANGES_MOST
+  pub closed : l.writable ≡ false
+  pub placed : are_placed l.code l.parts ≡ true
+  pub is : spans ≡ text_spans l.code
+  pub even : list_any (is_odd_in spans) l.named ≡ false
+  pub small : text_size spans ≤ TEXT_MOST
+  pub functions : k.functions ≡ functions_in 0 spans l.named
+  pub count : length k.functions ≤ FUNCTIONS_MOST
+  pub entry : entry_in spans l.entry ≡ Some k.entry
+  pub lawful : AreRanges spans (text_bytes l.code)
+  pub places : spans_of k.ranges ≡ spans
+  pub bytes : bytes_of k.ranges ≡ text_bytes l.code
+  pub parts : k.parts ≡ map part_of l.parts
+
+leb_from : (a b : ℕ) → a ≤ b → nat_le a b ≡ true
+leb_from a b h = grind (arith, nat_tests, h)
+
+abbrev parts_at : ℕ → List Range → List (ℕ × List ℕ) → List Function → ElfParts
+parts_at entry ranges parts functions = record { entry = entry; ranges = ranges; parts = parts; functions = functions }
+
+made_is : (l : Layout) (spans : List Span) (k : ElfParts) → Made l spans k → kernel_at l spans k.entry ≡ k
+made_is l spans k m =
+    let ranges = ranges_same k.ranges (cut spans (text_bytes l.code)) (m.places ∙ sym (cut_spans spans (text_bytes l.code) m.lawful)) (m.bytes ∙ sym (cut_bytes spans (text_bytes l.code) m.lawful)) in
+    ap (λ r. parts_at k.entry r (map part_of l.parts) (functions_in 0 spans l.named)) (sym ranges)
+    ∙ ap (λ p. parts_at k.entry k.ranges p (functions_in 0 spans l.named)) (sym m.parts) ∙ ap (parts_at k.entry k.ranges k.parts) (sym m.functions)
+
+made_in : (l : Layout) (spans : List Span) (k : ElfParts) → Made l spans k → kernel_in l spans ≡ Ok k
+unfolding kernel_in
+made_in l spans k m =
+    let count : nat_le (length (functions_in 0 spans l.named)) FUNCTIONS_MOST ≡ true = ap (λ (fs : List Function). nat_le (length fs) FUNCTIONS_MOST) (sym m.functions) ∙ leb_from (length k.functions) FUNCTIONS_MOST m.count in
+    let small : nat_le (text_size spans) TEXT_MOST ≡ true = leb_from (text_size spans) TEXT_MOST m.small in
+    rw (m.even, small, count, m.entry) (ap Ok (made_is l spans k m))
+
+pub put_together : (l : Layout) (spans : List Span) (k : ElfParts) → Made l spans k → kernel_of_laid l ≡ Ok k
+unfolding kernel_of_laid kernel_in
+put_together l spans k m =
+    let few : nat_le (length l.code) RANGES_MOST ≡ true = leb_from (length l.code) RANGES_MOST m.few in
+    rw (m.text, few, m.closed, m.placed) (ap (kernel_in l) (sym m.is) ∙ made_in l spans k m)

@@ -1,4 +1,7 @@
 pub mod FunctionList
+pub mod FunctionLaws
 pub mod Kernels
-pub mod Placing
+pub mod Segments
 pub mod TableLemmas
+pub mod Tests
+pub mod Texts

@@ -1,13 +1,13 @@
 -- Names that end at the first zero byte, and tables that are read entry by entry.
-use Rattle.std.proofs.Common.{◌≡◌, ℕ, zero, suc, ◌+◌, ◌≤◌, ◌==◌, not, nat_lt, Bool, true, false, cond, List, [], ◌∷◌, ◌++◌, take, length, map, Some, None, refl, sym, ap, ◌∙◌, arith}
-use Rattle.std.specs.List.{filter, position, position_or_len, prefix_len, before_first, range_with_len}
+use Rattle.std.proofs.Common.{◌≡◌, ℕ, zero, suc, ◌+◌, ◌≤◌, ◌==◌, not, nat_lt, Bool, true, false, cond, List, [], ◌∷◌, ◌++◌, take, length, map, append_assoc, Some, None, refl, sym, ap, ◌∙◌, arith}
+use Rattle.std.specs.Prelude.{flat_map}
+use Rattle.std.specs.List.{filter, find, position, position_or_len, prefix_len, before_first, range_with_len}
 use Rattle.std.proofs.lemmas.Bool.Decides.{nat_tests}
-use Rattle.std.proofs.lemmas.List.{take-map, take_all, map-append}
+use Rattle.std.proofs.lemmas.List.{take-map, take_all, append-nil}
 use Rattle.std.proofs.lemmas.List.FromFn.{filter_of_map_range_with_len_more, map-range_with_len_more}
 use Rattle.std.proofs.lemmas.Option.{none-some, same_Some}
 use Rattle.elf_read.specs.declared.fields.Symbol.{Symbol}
 use Rattle.elf_read.specs.Starts.{kept_name, shown_byte, or_question}
-use Rattle.elf_read.specs.Fields.{is_function, place_of}
 
 abbrev is_zero : ℕ → Bool
 is_zero byte = byte == 0
@@ -72,6 +72,10 @@ kept_name-before xs =
 
 -- ---- one more entry of a table
 
+pub flat_map-push : {A B : Type 0} (g : A → List B) (xs : List A) (x : A) → flat_map g (xs ++ x ∷ []) ≡ flat_map g xs ++ g x
+flat_map-push g [] x = append-nil (g x)
+flat_map-push g (y ∷ xs) x = ap (λ l. g y ++ l) (flat_map-push g xs x) ∙ sym (append_assoc (g y) (flat_map g xs) (g x))
+
 pub filtered_more : {A : Type 0} (p : A → Bool) (f : ℕ → A) (n : ℕ) (old new : List A) (x : A) → old ≡ filter p (map f (range_with_len 0 n)) → x ≡ f n
     → new ≡ old ++ cond (p x) (x ∷ []) [] → new ≡ filter p (map f (range_with_len 0 (n + 1)))
 filtered_more p f n old new x so_far is pushed =
@@ -83,12 +87,18 @@ pub mapped_more : {A : Type 0} (f : ℕ → A) (n : ℕ) (old new : List A) (x :
 mapped_more f n old new x so_far is pushed =
     pushed ∙ ap (λ l. l ++ x ∷ []) so_far ∙ ap (λ y. map f (range_with_len 0 n) ++ y ∷ []) is ∙ sym (map-range_with_len_more f 0 n n (omega arith))
 
-pub named_more : (strings : List ℕ) (f : ℕ → Symbol) (n : ℕ) (old new : List (ℕ × List ℕ)) (x : Symbol)
-    → old ≡ map (place_of strings) (filter is_function (map f (range_with_len 0 n))) → x ≡ f n
-    → new ≡ old ++ map (place_of strings) (cond (is_function x) (x ∷ []) []) → new ≡ map (place_of strings) (filter is_function (map f (range_with_len 0 (n + 1))))
-named_more strings f n old new x so_far is pushed =
-    let before = filter is_function (map f (range_with_len 0 n)) in
-    pushed ∙ ap (λ l. l ++ map (place_of strings) (cond (is_function x) (x ∷ []) [])) so_far
-    ∙ ap (λ y. map (place_of strings) before ++ map (place_of strings) (cond (is_function y) (y ∷ []) [])) is
-    ∙ sym (map-append (place_of strings) before (cond (is_function (f n)) (f n ∷ []) []))
-    ∙ ap (map (place_of strings)) (sym (filter_of_map_range_with_len_more is_function f 0 n n (omega arith)))
+pub flat_more : {A : Type 0} (f : ℕ → Symbol) (g : Symbol → List A) (n : ℕ) (old new : List A) (x : Symbol)
+    → old ≡ flat_map g (map f (range_with_len 0 n)) → x ≡ f n → new ≡ old ++ g x → new ≡ flat_map g (map f (range_with_len 0 (n + 1)))
+flat_more f g n old new x so_far is pushed =
+    pushed ∙ ap (λ l. l ++ g x) so_far ∙ ap (λ y. flat_map g (map f (range_with_len 0 n)) ++ g y) is
+    ∙ sym (ap (flat_map g) (map-range_with_len_more f 0 n n (omega arith)) ∙ flat_map-push g (map f (range_with_len 0 n)) (f n))
+
+-- ---- what is found
+
+pub found_passes : {A : Type 0} (p : A → Bool) (xs : List A) (x : A) → find p xs ≡ Some x → p x ≡ true
+found_passes p [] x h = absurd (none-some x h)
+found_passes p (y ∷ xs) x h =
+    elim (p y) as (λ b. p y ≡ b → cond b (Some y) (find p xs) ≡ Some x → p x ≡ true) [
+      | true ↦ λ is e. ap p (sym (same_Some y x e)) ∙ is
+      | false ↦ λ is e. found_passes p xs x e
+    ] refl h

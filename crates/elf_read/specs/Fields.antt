@@ -1,12 +1,14 @@
 -- What stands in an ELF file: the header, the program headers, the section headers and the symbols, all little endian.
 -- The offsets are those of ELF-64 ("ELF Header", "Program Header", "Section Header", "Symbol Table").
-use Rattle.std.specs.Prelude.{ℕ, ◌+◌, ◌*◌, ◌/◌, ◌%◌, ◌^◌, ◌==◌, ◌&&◌, nat_lt, Bool, List, take, drop, map, slice_index, bit_and, not}
+use Rattle.std.specs.Prelude.{ℕ, ◌+◌, ◌*◌, ◌/◌, ◌%◌, ◌^◌, ◌==◌, ◌&&◌, nat_lt, Bool, List, [], ◌∷◌, take, drop, map, flat_map, slice_index, bit_and, not, cond, Option, Some, None}
 use Rattle.std.specs.List.{filter, range_with_len, before_first}
 use Rattle.elf_read.specs.declared.fields.Header.{Header}
 use Rattle.elf_read.specs.declared.fields.ProgramHeader.{ProgramHeader}
 use Rattle.elf_read.specs.declared.fields.SectionHeader.{SectionHeader}
 use Rattle.elf_read.specs.declared.fields.Symbol.{Symbol}
-use Rattle.elf_read.specs.declared.fields.TheConstants.{PT_LOAD, PF_X, PF_W, SHT_SYMTAB, SHF_COMPRESSED, STT_FUNC}
+use Rattle.elf_read.specs.declared.fields.TheConstants.{PT_LOAD, PF_X, PF_W, SHT_SYMTAB, SHF_COMPRESSED, STT_FUNC, PHDR_SIZE, SHDR_SIZE, SYM_SIZE}
+use Rattle.elf_read.specs.declared.laid.NamedPlace.{NamedPlace}
+use Rattle.elf_read.specs.Addresses.{place_of_address}
 use Rattle.elf_read.specs.Starts.{kept_name}
 
 -- numbers of 2, 4 and 8 bytes; a byte past the end counts as 0
@@ -56,13 +58,13 @@ abbrev pub is_segment : ProgramHeader → Bool
 is_segment p = (p.p_type == PT_LOAD) && nat_lt 0 p.p_memsz
 
 abbrev pub segment_at : List ℕ → Header → ℕ → ProgramHeader
-segment_at file h n = program_header file (h.e_phoff + 56 * n)
+segment_at file h n = program_header file (h.e_phoff + PHDR_SIZE * n)
 
 abbrev pub segments_in : List ℕ → Header → List ProgramHeader
 segments_in file h = filter is_segment (map (segment_at file h) (range_with_len 0 h.e_phnum))
 
 abbrev pub section_at : List ℕ → Header → ℕ → SectionHeader
-section_at file h n = section_header file (h.e_shoff + 64 * n)
+section_at file h n = section_header file (h.e_shoff + SHDR_SIZE * n)
 
 abbrev pub sections_in : List ℕ → Header → List SectionHeader
 sections_in file h = map (section_at file h) (range_with_len 0 h.e_shnum)
@@ -90,19 +92,24 @@ abbrev pub string_at : List ℕ → ℕ → List ℕ
 string_at strings at = before_first (λ byte. byte == 0) (drop at strings)
 
 abbrev pub symbol_at : List ℕ → SectionHeader → ℕ → Symbol
-symbol_at file table n = symbol file (table.sh_offset + 24 * n)
+symbol_at file table n = symbol file (table.sh_offset + SYM_SIZE * n)
 
 -- as many as there is room for
 abbrev pub symbols_in : List ℕ → SectionHeader → List Symbol
-symbols_in file table = map (symbol_at file table) (range_with_len 0 (table.sh_size / 24))
+symbols_in file table = map (symbol_at file table) (range_with_len 0 (table.sh_size / SYM_SIZE))
 
 abbrev pub is_function : Symbol → Bool
 is_function s = s.st_info % 16 == STT_FUNC
 
--- the address and the kept name of a symbol
-abbrev pub place_of : List ℕ → Symbol → ℕ × List ℕ
-place_of strings s = (s.st_value, kept_name (string_at strings s.st_name))
+-- at a place, where there is one, with a kept name
+abbrev pub named_at : Option ℕ → List ℕ → List NamedPlace
+named_at None name = []
+named_at (Some place) name = record { place = place; name = kept_name name } ∷ []
 
--- the functions' symbols
-abbrev pub named_in : List ℕ → SectionHeader → List ℕ → List (ℕ × List ℕ)
-named_in file table strings = map (place_of strings) (filter is_function (symbols_in file table))
+-- the named place of a symbol: that of a function whose address has a place
+abbrev pub named_of : List ProgramHeader → List ℕ → Symbol → List NamedPlace
+named_of code strings s = cond (is_function s) (named_at (place_of_address code s.st_value) (string_at strings s.st_name)) []
+
+-- the named places of a table of symbols
+abbrev pub named_in : List ℕ → List ProgramHeader → SectionHeader → List ℕ → List NamedPlace
+named_in file code table strings = flat_map (named_of code strings) (symbols_in file table)

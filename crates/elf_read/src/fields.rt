@@ -3,6 +3,8 @@
 ghost use Rattle.std.specs.Prelude.{◌≡◌, ◌+◌, ◌<◌, ◌^◌, slice_index};
 ghost use Rattle.elf_read.specs.Fields.{u16_at, u32_at, u64_at, header_of, program_header, section_header, symbol};
 
+use fc_numbers::places::Gpa;
+
 /// `e_ident[EI_CLASS]`: 64-bit objects.
 pub const ELFCLASS64: u8 = 2;
 
@@ -33,6 +35,18 @@ pub const SHF_COMPRESSED: u64 = 0x800;
 /// The low four bits of `st_info`: a function.
 pub const STT_FUNC: u8 = 2;
 
+/// The bytes of the ELF header.
+pub const EHDR_SIZE: u64 = 64;
+
+/// The bytes of a program header.
+pub const PHDR_SIZE: u64 = 56;
+
+/// The bytes of a section header.
+pub const SHDR_SIZE: u64 = 64;
+
+/// The bytes of a symbol.
+pub const SYM_SIZE: u64 = 24;
+
 /// The ELF header: where execution begins, and where and how many the headers of segments and sections are.
 #[derive(Clone, Copy)]
 pub struct Header {
@@ -50,7 +64,7 @@ pub struct ProgramHeader {
     pub p_flags: u32,
     pub p_offset: u64,
     pub p_vaddr: u64,
-    pub p_paddr: u64,
+    pub p_paddr: Gpa,
     pub p_filesz: u64,
     pub p_memsz: u64,
 }
@@ -136,7 +150,7 @@ pub fn read_program_header(file: &[u8], at: u64) -> ProgramHeader
         p_flags: u32_at(file, at + 4),
         p_offset: u64_at(file, at + 8),
         p_vaddr: u64_at(file, at + 16),
-        p_paddr: u64_at(file, at + 24),
+        p_paddr: Gpa(u64_at(file, at + 24)),
         p_filesz: u64_at(file, at + 32),
         p_memsz: u64_at(file, at + 40),
     }

@@ -1,22 +1,24 @@
 //! The segments, the sections and the named functions of a file.
 
 ghost use Rattle.std.specs.Prelude.{◌≡◌, ◌≢◌, ◌≤◌, ◌<◌, ◌*◌, ◌+◌, ◌++◌, ◌∷◌, [], ℕ, true, ◌==◌, cond, length, take, drop, map, IfOk, IfSome, OnOk, option_copied, option_map, Some, None};
-ghost use Rattle.std.specs.List.{filter, slice_get, before_first, position};
+ghost use Rattle.std.specs.List.{filter, find, slice_get, before_first, position};
 ghost use Rattle.elf_read.specs.Starts.{kept_name};
-ghost use Rattle.elf_read.specs.Fields.{segment_at, segments_in, section_at, sections_in, is_segment, is_function, piece, string_at, place_of, named_in};
+ghost use Rattle.elf_read.specs.Fields.{segment_at, segments_in, section_at, sections_in, is_segment, is_function, piece, string_at, named_at, named_of, named_in};
+ghost use Rattle.elf_read.specs.Addresses.{is_within, has_address, place_of_address};
+ghost use Rattle.elf_read.specs.declared.fields.TheConstants.{PHDR_SIZE, SHDR_SIZE};
 ghost use Rattle.elf_read.specs.Elf.{is_inside, has_strings, are_symbols, symbol_table, strings_of, named_by};
 
 use crate::fields::{
-    Header, ProgramHeader, SectionHeader, Symbol, read_program_header, read_section_header,
-    read_symbol,
+    Header, PHDR_SIZE, ProgramHeader, SHDR_SIZE, SYM_SIZE, SectionHeader, Symbol,
+    read_program_header, read_section_header, read_symbol,
 };
+use crate::kernel::whole_pages;
+use crate::laid::NamedPlace;
 use crate::starts::{front, keep_name};
 use fc_numbers::memory::NoMemory;
+use fc_numbers::places::{Gpa, RAM_MOST, RAM_START};
 use sqlite_items::Items;
 use std::alloc::Global;
-
-/// The places that have names.
-pub type Named = Items<(u64, Items<u8>)>;
 
 /// Whether a piece of the file is inside it. A piece of no bytes is, whatever its offset.
 pub fn is_inside(file: &[u8], offset: u64, size: u64) -> bool
@@ -41,12 +43,12 @@ pub fn segments(
     file: &[u8],
     header: &Header,
 ) -> Result<Items<ProgramHeader>, NoMemory>
-    requires { is_inside file.now header.now.e_phoff (56 * header.now.e_phnum) ≡ true }
+    requires { is_inside file.now header.now.e_phoff (PHDR_SIZE * header.now.e_phnum) ≡ true }
     ensures { IfOk result (λ segments. segments ≡ segments_in file.now header.now) }
 {
     let mut segments = Items::new(alloc);
     for n in 0..header.e_phnum {
-        let segment = read_program_header(file, header.e_phoff + 56 * n as u64);
+        let segment = read_program_header(file, header.e_phoff + PHDR_SIZE * n as u64);
         push_segment(&mut segments, segment)?;
     }
     Ok(segments)
@@ -58,12 +60,12 @@ pub fn sections(
     file: &[u8],
     header: &Header,
 ) -> Result<Items<SectionHeader>, NoMemory>
-    requires { is_inside file.now header.now.e_shoff (64 * header.now.e_shnum) ≡ true }
+    requires { is_inside file.now header.now.e_shoff (SHDR_SIZE * header.now.e_shnum) ≡ true }
     ensures { IfOk result (λ sections. sections ≡ sections_in file.now header.now) }
 {
     let mut sections = Items::new(alloc);
     for n in 0..header.e_shnum {
-        sections.push(read_section_header(file, header.e_shoff + 64 * n as u64))?;
+        sections.push(read_section_header(file, header.e_shoff + SHDR_SIZE * n as u64))?;
     }
     Ok(sections)
 }
@@ -149,35 +151,79 @@ fn name_at(alloc: Global, strings: &[u8], at: u32) -> Result<Items<u8>, NoMemory
     keep_name(alloc, before_zero(front(rest(strings, at as usize))))
 }
 
+/// Whether the segment lies in the machine's largest RAM.
+fn is_within(segment: &ProgramHeader) -> bool
+    ensures { result ≡ is_within segment.now }
+{
+    RAM_START <= segment.p_paddr.0
+        && segment.p_paddr.0 <= RAM_START + RAM_MOST
+        && segment.p_memsz <= RAM_START + RAM_MOST - segment.p_paddr.0
+}
+
+/// Whether the segment lies in RAM and its pages hold the address.
+fn has_address(segment: &ProgramHeader, address: u64) -> bool
+    ensures { result ≡ has_address address segment.now }
+{
+    is_within(segment)
+        && segment.p_vaddr <= address
+        && address - segment.p_vaddr < whole_pages(segment.p_memsz)
+}
+
+/// The first of the segments that has the address.
+fn segment_with(code: &[ProgramHeader], address: u64) -> Option<ProgramHeader>
+    ensures { result ≡ find (has_address address) code.now }
+{
+    code.iter()
+        .copied()
+        .find(|segment| has_address(segment, address))
+}
+
+/// The place of an address, by the first executable segment that has it.
+#[tactic(auto, unfolding(crate::specs::Addresses::place_of_address), using(crate::proofs::TableLemmas::found_passes))]
+pub fn place_of_address(code: &[ProgramHeader], address: u64) -> Option<Gpa>
+    ensures { result ≡ place_of_address code.now address }
+{
+    match segment_with(code, address) {
+        Some(segment) => Some(Gpa(address - segment.p_vaddr + segment.p_paddr.0)),
+        None => None,
+    }
+}
+
+/// Puts the place of a symbol at the end, where it is a function's and its address has a place.
 fn push_symbol(
     alloc: Global,
-    named: &mut Named,
+    named: &mut Items<NamedPlace>,
+    code: &[ProgramHeader],
     strings: &[u8],
     symbol: Symbol,
 ) -> Result<(), NoMemory>
-    ensures { OnOk result (named.new ≡ named.old ++ map (place_of strings.now) (cond (is_function symbol) (symbol ∷ []) [])) }
+    ensures { OnOk result (named.new ≡ named.old ++ named_of code.now strings.now symbol) }
 {
-    if symbol.is_function() {
+    if !symbol.is_function() {
+        return Ok(());
+    }
+    if let Some(place) = place_of_address(code, symbol.st_value) {
         let name = name_at(alloc, strings, symbol.st_name)?;
-        named.push((symbol.st_value, name))?;
+        named.push(NamedPlace { place, name })?;
     }
     Ok(())
 }
 
 /// The functions of a table of symbols.
-fn named(
+fn named_in(
     alloc: Global,
     file: &[u8],
+    code: &[ProgramHeader],
     table: &SectionHeader,
     strings: &[u8],
-) -> Result<Named, NoMemory>
+) -> Result<Items<NamedPlace>, NoMemory>
     requires { is_inside file.now table.now.sh_offset table.now.sh_size ≡ true }
-    ensures { IfOk result (λ named. named ≡ named_in file.now table.now strings.now) }
+    ensures { IfOk result (λ named. named ≡ named_in file.now code.now table.now strings.now) }
 {
     let mut named = Items::new(alloc);
-    for n in 0..table.sh_size / 24 {
-        let symbol = read_symbol(file, table.sh_offset + 24 * n);
-        push_symbol(alloc, &mut named, strings, symbol)?;
+    for n in 0..table.sh_size / SYM_SIZE {
+        let symbol = read_symbol(file, table.sh_offset + SYM_SIZE * n);
+        push_symbol(alloc, &mut named, code, strings, symbol)?;
     }
     Ok(named)
 }
@@ -193,23 +239,22 @@ fn strings<'f>(file: &'f [u8], strings: Option<SectionHeader>) -> &'f [u8]
     }
 }
 
-/// The functions that the file's symbols name.
+/// The functions that the file's symbols name, where their addresses have places.
 pub fn named_by(
     alloc: Global,
     file: &[u8],
+    code: &[ProgramHeader],
     sections: &[SectionHeader],
     table: Option<SectionHeader>,
-) -> Result<Named, NoMemory>
+) -> Result<Items<NamedPlace>, NoMemory>
     requires { are_symbols file.now sections.now table ≡ true }
-    ensures { IfOk result (λ named. named ≡ named_by file.now sections.now table) }
+    ensures { IfOk result (λ named. named ≡ named_by file.now code.now sections.now table) }
 {
     match table {
-        Some(table) => named(
-            alloc,
-            file,
-            &table,
-            strings(file, section(sections, table.sh_link)),
-        ),
+        Some(table) => {
+            let strings = strings(file, section(sections, table.sh_link));
+            named_in(alloc, file, code, &table, strings)
+        }
         None => Ok(Items::new(alloc)),
     }
 }

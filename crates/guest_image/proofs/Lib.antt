@@ -1,4 +1,1 @@
-pub mod Accepting
-pub mod ElfImages
-pub mod Images
 pub mod Setups

@@ -1,5 +1,5 @@
 -- What is accepted has the facts of an accepted setup; and events as far as a loop has come.
-use Rattle.std.proofs.Common.{◌≡◌, ℕ, zero, suc, ◌+◌, ◌*◌, ◌%◌, ◌<◌, ◌≤◌, ◌==◌, nat_le, nat_lt, Bool, true, false, cond, not, ◌&&◌, List, [], ◌∷◌, ◌++◌, length, take, get_or, Option, Some, None, option_map, option_and_then, is_some, Ok, refl, sym, ap, ◌∙◌, subst, arith}
+use Rattle.std.proofs.Common.{◌≡◌, ℕ, zero, suc, ◌+◌, ◌*◌, ◌%◌, ◌<◌, ◌≤◌, ◌==◌, nat_le, nat_lt, Bool, true, false, cond, not, ◌&&◌, List, [], ◌∷◌, ◌++◌, length, take, get_or, Option, Some, None, option_map, option_and_then, is_some, Result, Ok, Err, ◌||◌, refl, sym, ap, ◌∙◌, subst, arith}
 use Rattle.std.specs.List.{list_all}
 use Rattle.std.proofs.lemmas.List.{take_more}
 use Rattle.std.proofs.lemmas.Option.{none-some, same_Some}
@@ -7,24 +7,57 @@ use Rattle.std.proofs.lemmas.Bool.Decides.{nat_tests}
 use Rattle.fc_numbers.specs.declared.places.TheConstants.{RAM_START, RAM_MOST, PAGE}
 use Rattle.json_fields.specs.Fields.{json_of, each_of}
 use Rattle.json_fields.proofs.Lists.{each_of-push}
-use Rattle.guest_image.specs.declared.limits.TheConstants.{VCPUS_MOST, STEPS_MOST, NAME_AT_MOST, EVENTS_MOST}
-use Rattle.guest_image.specs.declared.image.Image.{Image}
-use Rattle.guest_image.specs.declared.setup.Event.{Event}
-use Rattle.guest_image.specs.declared.setup.What.{What}
-use Rattle.guest_image.specs.declared.setup.Setup.{Setup}
+use Rattle.fc_numbers.specs.declared.places.Span.{Span}
+use Rattle.fc_numbers.specs.Spans.{holds, in_text, IsTextBelow}
+use Rattle.guest_input.specs.declared.limits.TheConstants.{VCPUS_MOST, STEPS_MOST, NAME_AT_MOST, EVENTS_MOST}
+use Rattle.guest_input.specs.declared.image.Start.{Start}
+use Rattle.guest_input.specs.declared.image.Image.{Image}
+use Rattle.guest_input.specs.declared.setup.Event.{Event}
+use Rattle.guest_input.specs.declared.setup.What.{What}
+use Rattle.guest_input.specs.declared.setup.Setup.{Setup}
+use Rattle.guest_input.specs.Text.{AreRanges, spans_of, bytes_of}
+use Rattle.guest_input.specs.Accepted.{IsForVcpu, AreEvents, PartsEndBy, IsSetupFor}
 use Rattle.guest_image.specs.declared.setup_file.AskedWhat.{AskedWhat}
 use Rattle.guest_image.specs.declared.setup_file.AskedWhat.TheVariants as asked
 use Rattle.guest_image.specs.declared.setup_file.AskedEvent.{AskedEvent}
 use Rattle.guest_image.specs.declared.setup_file.Asked.{Asked}
-use Rattle.guest_image.specs.Accepted.{IsForVcpu, AreEvents, PartsEndBy, IsSetupFor}
-use Rattle.elf_read.specs.Steps.{must}
-use Rattle.guest_image.specs.Members.{or_fault}
+use Rattle.elf_read.specs.Steps.{◌>>=◌, must, or_fault}
 use Rattle.guest_image.specs.Asked.{asked_of}
 use Rattle.guest_image.specs.Limits.{is_ram_size, are_steps, what_for, event_for, events_for, hook_at, out_of_order, unless_out, ends_by, holds_image, accepted_setup, setup_of}
 use Rattle.guest_image.specs.declared.image.Field.TheVariants as key
-use Rattle.guest_image.specs.declared.setup.What.TheVariants as what
+use Rattle.guest_input.specs.declared.setup.What.TheVariants as what
 use Rattle.guest_image.specs.declared.setup.SetupFault.TheVariants.{NotJson, Limit, ImageOutsideRam, NotBuilt}
-use Rattle.guest_image.proofs.Accepting.{bind_ok, must_ok, same_Ok, both, passes, eqb_true, leb_true, ltb_true, ltb_false}
+
+bind_ok : {A B E : Type 0} (r : Result A E) (f : A → Result B E) (y : B) → (r >>= f) ≡ Ok y → (x : A) × (r ≡ Ok x) × (f x ≡ Ok y)
+bind_ok (Ok x) f y h = (x, refl, h)
+bind_ok (Err e) f y h = absurd cc
+
+must_ok : {E : Type 0} (e : E) (b x : Bool) → must e b ≡ Ok x → b ≡ true
+must_ok e true x h = refl
+must_ok e false x h = absurd cc
+
+same_Ok : {A E : Type 0} (x y : A) → ◌≡◌ {A = Result A E} (Ok x) (Ok y) → x ≡ y
+same_Ok x y h = cc
+
+both : (a b : Bool) → (a && b) ≡ true → (a ≡ true) × (b ≡ true)
+both true b h = (refl, h)
+both false b h = absurd cc
+
+passes : {A : Type 0} (b : Bool) (x : A) (o : Option A) → cond b (Some x) o ≡ None → (b ≡ false) × (o ≡ None)
+passes true x o h = absurd (none-some x (sym h))
+passes false x o h = (refl, h)
+
+eqb_true : (a b : ℕ) → (a == b) ≡ true → a ≡ b
+eqb_true a b h = grind (arith, nat_tests)
+
+leb_true : (a b : ℕ) → nat_le a b ≡ true → a ≤ b
+leb_true a b h = grind (arith, nat_tests)
+
+ltb_true : (a b : ℕ) → nat_lt a b ≡ true → a < b
+ltb_true a b h = grind (arith, nat_tests)
+
+ltb_false : (a b : ℕ) → nat_lt a b ≡ false → b ≤ a
+ltb_false a b h = grind (arith, nat_tests)
 
 -- one more event
 pub each_of-next : {A B : Type 0} (f : A → Option B) (xs : List A) (i : ℕ) (d : A) (ys : List B) (y : B)
@@ -139,6 +172,22 @@ ends_law end (p ∷ ps) h =
     let split = both (ends_by end p.0 (length p.1)) (list_all (λ part. ends_by end part.0 (length part.1)) ps) h in
     (leb_true (p.0 + length p.1) end split.0, ends_law end ps split.1)
 
+below_end : (end : ℕ) (ss : List Span) (place : ℕ) → list_all (λ s. nat_le s.end end) ss ≡ true → in_text ss place ≡ true → place < end
+below_end end [] place k h = absurd cc
+below_end end (s ∷ ss) place k h =
+    let split = both (nat_le s.end end) (list_all (λ s. nat_le s.end end) ss) k in
+    elim (holds s place) as (λ b. holds s place ≡ b → (b || in_text ss place) ≡ true → place < end) [
+      | true ↦ λ is _.
+          let inside = both (nat_le s.start place) (nat_lt place s.end) is in
+          let less : place < s.end = ltb_true place s.end inside.1 in
+          let most : s.end ≤ end = leb_true s.end end split.0 in
+          omega (arith, less, most)
+      | false ↦ λ is more. below_end end ss place split.1 more
+    ] refl h
+
+text_below : (end : ℕ) (ss : List Span) (bytes : List ℕ) → AreRanges ss bytes → list_all (λ s. nat_le s.end end) ss ≡ true → IsTextBelow end ss
+text_below end ss bytes lawful h = record { few = lawful.below.few; ranges = lawful.below.ranges; size = lawful.below.size; high = λ place inside. below_end end ss place h inside }
+
 -- the tests that an accepted setup passed
 record Passed (i : Image) (a : Asked) (events : List Event) : Type 0 where
   vcpus : (nat_le 1 a.vcpus && nat_le a.vcpus VCPUS_MOST) ≡ true
@@ -149,16 +198,16 @@ record Passed (i : Image) (a : Asked) (events : List Event) : Type 0 where
   order : out_of_order 0 0 events ≡ None
   inside : holds_image a.ram i ≡ true
 
-abbrev setup_with : Asked → Option ℕ → List Event → Setup
-setup_with a hook events = record { vcpus = a.vcpus; ram = a.ram; steps = a.steps; hook = hook; name_at = a.name_at; start = a.start; events = events }
+abbrev setup_with : Asked → Option Start → List Event → Setup
+setup_with a hook events = record { vcpus = a.vcpus; ram = a.ram; steps = a.steps; hook = hook; name_at = a.name_at; start = a.start; events = events; gstage = a.gstage }
 
-passed_law : (i : Image) (a : Asked) (events : List Event) (hook : Option ℕ) → Passed i a events → IsSetupFor i (setup_with a hook events)
-passed_law i a events hook p =
+passed_law : (i : Image) (a : Asked) (events : List Event) (hook : Option Start) → AreRanges (spans_of i.ranges) (bytes_of i.ranges) → Passed i a events → IsSetupFor i (setup_with a hook events)
+passed_law i a events hook lawful p =
     let vcpus = both (nat_le 1 a.vcpus) (nat_le a.vcpus VCPUS_MOST) p.vcpus in
     let ram = both (nat_le PAGE a.ram && nat_le a.ram RAM_MOST) (a.ram % PAGE == 0) p.ram in
     let size = both (nat_le PAGE a.ram) (nat_le a.ram RAM_MOST) ram.0 in
     let steps = both (nat_le 1 a.steps) (nat_le (a.vcpus * a.steps) STEPS_MOST) p.steps in
-    let inside = both (ends_by (RAM_START + a.ram) i.base (length i.text)) (list_all (λ part. ends_by (RAM_START + a.ram) part.0 (length part.1)) i.parts) p.inside in
+    let inside = both (list_all (λ s. nat_le s.end (RAM_START + a.ram)) (spans_of i.ranges)) (list_all (λ part. ends_by (RAM_START + a.ram) part.0 (length part.1)) i.parts) p.inside in
     record {
       setup = record {
         some = leb_true 1 a.vcpus vcpus.0;
@@ -172,13 +221,13 @@ passed_law i a events hook p =
         events_most = events_for-few a.vcpus a.events events p.events_are;
         events = order_law a.vcpus 0 0 events (events_law a.vcpus a.events events p.events_are) p.order;
       };
-      text = leb_true (i.base + length i.text) (RAM_START + a.ram) inside.0;
+      text = text_below (RAM_START + a.ram) (spans_of i.ranges) (bytes_of i.ranges) lawful inside.0;
       parts = ends_law (RAM_START + a.ram) i.parts inside.1;
     }
 
-accepted_law : (i : Image) (a : Asked) (s : Setup) → accepted_setup i a ≡ Ok s → IsSetupFor i s
+accepted_law : (i : Image) (a : Asked) (s : Setup) → AreRanges (spans_of i.ranges) (bytes_of i.ranges) → accepted_setup i a ≡ Ok s → IsSetupFor i s
 unfolding accepted_setup
-accepted_law i a s h =
+accepted_law i a s lawful h =
     let vcpus = bind_ok (must (Limit key.Vcpus) (nat_le 1 a.vcpus && nat_le a.vcpus VCPUS_MOST)) _ s h in
     let ram = bind_ok (must (Limit key.Ram) (is_ram_size a.ram)) _ s vcpus.2 in
     let steps = bind_ok (must (Limit key.Steps) (are_steps a.vcpus a.steps)) _ s ram.2 in
@@ -189,7 +238,7 @@ accepted_law i a s h =
     let inside = bind_ok (must ImageOutsideRam (holds_image a.ram i)) _ s order.2 in
     let built = bind_ok (must NotBuilt (not (is_some hook.0))) _ s inside.2 in
     subst (IsSetupFor i) (same_Ok (setup_with a hook.0 events.0) s built.2)
-    (passed_law i a events.0 hook.0 (record {
+    (passed_law i a events.0 hook.0 lawful (record {
       vcpus = must_ok (Limit key.Vcpus) (nat_le 1 a.vcpus && nat_le a.vcpus VCPUS_MOST) vcpus.0 vcpus.1;
       ram = must_ok (Limit key.Ram) (is_ram_size a.ram) ram.0 ram.1;
       steps = must_ok (Limit key.Steps) (are_steps a.vcpus a.steps) steps.0 steps.1;
@@ -200,9 +249,9 @@ accepted_law i a s h =
     }))
 
 -- what the bytes give is a setup for the image
-pub setup_law : (i : Image) (bytes : List ℕ) (s : Setup) → setup_of i bytes ≡ Ok s → IsSetupFor i s
+pub setup_law : (i : Image) (bytes : List ℕ) (s : Setup) → AreRanges (spans_of i.ranges) (bytes_of i.ranges) → setup_of i bytes ≡ Ok s → IsSetupFor i s
 unfolding setup_of
-setup_law i bytes s h =
+setup_law i bytes s lawful h =
     let value = bind_ok (or_fault NotJson (json_of bytes)) _ s h in
     let wanted = bind_ok (asked_of value.0) _ s value.2 in
-    accepted_law i wanted.0 s wanted.2
+    accepted_law i wanted.0 s lawful wanted.2

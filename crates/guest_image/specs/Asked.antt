@@ -1,11 +1,13 @@
--- What a setup file asks for: an object with vcpus, ram and steps, and optionally hook, name_at, start and events
--- ([[clock,"key",byte],[clock,"raise",vcpu],[clock,"drop",vcpu],..]). The form is this project's own.
+-- What a setup file asks for: an object with vcpus, ram and steps, and optionally hook, name_at, start, events
+-- ([[clock,"key",byte],[clock,"raise",vcpu],[clock,"drop",vcpu],..]) and gstage. The form is this project's own.
 use Rattle.std.specs.Prelude.{ℕ, nat_lt, List, [], ◌∷◌, codes, Bool, if◌then◌else◌, Option, Some, None, option_map, option_and_then, bytes_eq, Result, Ok}
 use Rattle.serde_json.specs.Data.{Data}
 use Rattle.fc_numbers.specs.Names.{is_app_name}
 use Rattle.json_fields.specs.Fields.{is_object, is_null, whole_of, text_of, array_of, triple_of, each_of, has_only_keys}
-use Rattle.elf_read.specs.Steps.{◌>>=◌, must}
-use Rattle.guest_image.specs.Members.{or_fault, member_as, member_or}
+use Rattle.fc_numbers.specs.declared.machine.GKind.{GKind}
+use Rattle.fc_numbers.specs.declared.machine.GKind.TheVariants.{Sv39x4, Sv48x4}
+use Rattle.elf_read.specs.Steps.{◌>>=◌, must, or_fault}
+use Rattle.guest_image.specs.Members.{member_as, member_or}
 use Rattle.guest_image.specs.declared.image.Field.TheVariants as key
 use Rattle.guest_image.specs.declared.setup.SetupFault.{SetupFault}
 use Rattle.guest_image.specs.declared.setup.SetupFault.TheVariants.{Shape}
@@ -50,8 +52,15 @@ event_of d = option_and_then event_from (triple_of d)
 unfoldable pub events_of : Data → Option (List AskedEvent)
 events_of d = option_and_then (each_of event_of) (array_of d)
 
+abbrev pub kind_named : List ℕ → Option GKind
+kind_named name = if bytes_eq name (codes "sv39x4") then Some Sv39x4 else if bytes_eq name (codes "sv48x4") then Some Sv48x4 else None
+
+-- the name of a kind of second-stage tables
+unfoldable pub kind_of : Data → Option GKind
+kind_of d = option_and_then kind_named (text_of d)
+
 abbrev pub setup_keys : List (List ℕ)
-setup_keys = codes "vcpus" ∷ codes "ram" ∷ codes "steps" ∷ codes "hook" ∷ codes "name_at" ∷ codes "start" ∷ codes "events" ∷ []
+setup_keys = codes "vcpus" ∷ codes "ram" ∷ codes "steps" ∷ codes "hook" ∷ codes "name_at" ∷ codes "start" ∷ codes "events" ∷ codes "gstage" ∷ []
 
 -- no key but those of a setup
 unfoldable pub is_setup_known : Data → Bool
@@ -68,5 +77,6 @@ asked_of d = do
   name_at ← or_fault (Shape key.NameAt) (member_or whole_of 0 (codes "name_at") d)
   start ← or_fault (Shape key.Start) (member_or start_of None (codes "start") d)
   events ← or_fault (Shape key.Events) (member_or events_of [] (codes "events") d)
+  gstage ← or_fault (Shape key.Gstage) (member_or kind_of Sv39x4 (codes "gstage") d)
   known ← must (Shape key.Other) (is_setup_known d)
-  Ok (record { vcpus = vcpus; ram = ram; steps = steps; hook = hook; name_at = name_at; start = start; events = events })
+  Ok (record { vcpus = vcpus; ram = ram; steps = steps; hook = hook; name_at = name_at; start = start; events = events; gstage = gstage })

@@ -1,25 +1,36 @@
--- The image of a kernel: its parts and the digest over them.
+-- The digest of a kernel.
 -- SHA-256 is that of FIPS 180-4; what it is taken over is this project's own choice.
-use Rattle.std.specs.Prelude.{ℕ, List, ◌++◌, length, flat_map}
+use Rattle.std.specs.Prelude.{ℕ, ◌==◌, Bool, not, cond, List, [], ◌++◌, length, flat_map}
 use Rattle.std.specs.Int.{w64, to_le_bytes}
 use Rattle.sha2.specs.Sha256.{sha256}
-use Rattle.elf_read.specs.declared.parts.Function.{Function}
+use Rattle.fc_numbers.specs.declared.places.Span.{Span}
+use Rattle.fc_numbers.specs.Spans.{size_of}
+use Rattle.guest_input.specs.declared.image.Function.{Function}
+use Rattle.guest_input.specs.Text.{spans_of, bytes_of}
 use Rattle.elf_read.specs.declared.parts.ElfParts.{ElfParts}
-use Rattle.guest_image.specs.declared.image.Image.{Image}
 
 -- the eight bytes of a number, the lowest first
 unfoldable pub eight : ℕ → List ℕ
 eight n = to_le_bytes w64 n
 
-abbrev pub offset_bytes : Function → List ℕ
-offset_bytes f = eight f.offset
+-- a number that counts only where there are several ranges
+abbrev pub if_several : Bool → ℕ → List ℕ
+if_several several n = cond several (eight n) []
 
--- base, text length, number of functions, each offset, and the padded text
-abbrev pub digest_text : ElfParts → List ℕ
-digest_text k = eight k.base ++ eight (length k.text) ++ eight (length k.functions) ++ flat_map offset_bytes k.functions ++ k.text
+abbrev pub place_bytes : Span → List ℕ
+place_bytes s = eight s.start ++ eight (size_of s)
+
+abbrev pub start_bytes : Bool → Function → List ℕ
+start_bytes several f = if_several several f.at.range ++ eight f.at.offset
+
+abbrev pub has_several : List Span → Bool
+has_several spans = not (length spans == 1)
+
+-- the number of ranges, base and length of each, the number of functions, range and offset of each, and the bytes of
+-- all ranges; one range is not numbered
+abbrev pub digest_text : List Span → List ℕ → List Function → List ℕ
+digest_text spans bytes functions = if_several (has_several spans) (length spans) ++ flat_map place_bytes spans
+    ++ eight (length functions) ++ flat_map (start_bytes (has_several spans)) functions ++ bytes
 
 unfoldable pub digest_of : ElfParts → List ℕ
-digest_of k = sha256 (digest_text k)
-
-abbrev pub with_digest : ElfParts → Image
-with_digest k = record { base = k.base; entry = k.entry; text = k.text; parts = k.parts; functions = k.functions; digest = digest_of k }
+digest_of k = sha256 (digest_text (spans_of k.ranges) (bytes_of k.ranges) k.functions)

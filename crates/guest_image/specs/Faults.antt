@@ -11,6 +11,7 @@ use Rattle.guest_image.specs.declared.setup.SetupFault.{SetupFault}
 use Rattle.guest_image.specs.declared.setup.SetupFault.TheVariants as setup
 
 abbrev pub field_name : Field → List ℕ
+field_name key.Code = codes "code"
 field_name key.Base = codes "base"
 field_name key.Entry = codes "entry"
 field_name key.Text = codes "text"
@@ -23,6 +24,7 @@ field_name key.Hook = codes "hook"
 field_name key.NameAt = codes "name_at"
 field_name key.Start = codes "start"
 field_name key.Events = codes "events"
+field_name key.Gstage = codes "gstage"
 field_name key.Other = codes "other"
 
 abbrev pub elf_number : ElfFault → ℕ
@@ -30,7 +32,7 @@ elf_number elf.NotElf = 1
 elf_number elf.WrongKind = 2
 elf_number elf.Truncated = 3
 elf_number elf.NoText = 4
-elf_number elf.TwoTexts = 5
+elf_number elf.TooManyTexts = 5
 elf_number elf.WritableText = 6
 elf_number elf.Misplaced = 7
 elf_number elf.OddFunction = 8
@@ -44,7 +46,7 @@ elf_name elf.NotElf = codes "NotElf"
 elf_name elf.WrongKind = codes "WrongKind"
 elf_name elf.Truncated = codes "Truncated"
 elf_name elf.NoText = codes "NoText"
-elf_name elf.TwoTexts = codes "TwoTexts"
+elf_name elf.TooManyTexts = codes "TooManyTexts"
 elf_name elf.WritableText = codes "WritableText"
 elf_name elf.Misplaced = codes "Misplaced"
 elf_name elf.OddFunction = codes "OddFunction"

@@ -1,7 +1,5 @@
-pub mod Accepted
 pub mod Members
 pub mod Plain
-pub mod Kernel
 pub mod Digest
 pub mod ImageFile
 pub mod Asked

@@ -3,18 +3,20 @@
 use Rattle.std.specs.Prelude.{ℕ, ◌+◌, ◌*◌, ◌%◌, ◌==◌, ◌&&◌, nat_le, nat_lt, Bool, true, not, if◌then◌else◌, List, [], ◌∷◌, length, map, bytes_eq, Option, Some, None, is_some, option_map, Result, Ok, Err}
 use Rattle.std.specs.List.{list_all, filter}
 use Rattle.fc_numbers.specs.declared.places.TheConstants.{RAM_START, RAM_MOST, PAGE}
-use Rattle.elf_read.specs.declared.parts.Function.{Function}
+use Rattle.fc_numbers.specs.declared.places.Span.{Span}
+use Rattle.guest_input.specs.declared.image.Start.{Start}
+use Rattle.guest_input.specs.declared.image.Function.{Function}
+use Rattle.guest_input.specs.declared.image.Image.{Image}
+use Rattle.guest_input.specs.declared.limits.TheConstants.{VCPUS_MOST, STEPS_MOST, NAME_AT_MOST, EVENTS_MOST}
+use Rattle.guest_input.specs.declared.setup.What.{What}
+use Rattle.guest_input.specs.declared.setup.What.TheVariants as what
+use Rattle.guest_input.specs.declared.setup.Event.{Event}
+use Rattle.guest_input.specs.declared.setup.Setup.{Setup}
+use Rattle.guest_input.specs.Text.{spans_of}
 use Rattle.json_fields.specs.Fields.{json_of, each_of}
-use Rattle.elf_read.specs.Steps.{◌>>=◌, must}
-use Rattle.guest_image.specs.Members.{or_fault}
+use Rattle.elf_read.specs.Steps.{◌>>=◌, must, or_fault}
 use Rattle.guest_image.specs.Asked.{asked_of}
-use Rattle.guest_image.specs.declared.limits.TheConstants.{VCPUS_MOST, STEPS_MOST, NAME_AT_MOST, EVENTS_MOST}
-use Rattle.guest_image.specs.declared.image.Image.{Image}
 use Rattle.guest_image.specs.declared.image.Field.TheVariants as key
-use Rattle.guest_image.specs.declared.setup.What.{What}
-use Rattle.guest_image.specs.declared.setup.What.TheVariants as what
-use Rattle.guest_image.specs.declared.setup.Event.{Event}
-use Rattle.guest_image.specs.declared.setup.Setup.{Setup}
 use Rattle.guest_image.specs.declared.setup.SetupFault.{SetupFault}
 use Rattle.guest_image.specs.declared.setup.SetupFault.TheVariants.{NotJson, Limit, NoHook, EventOrder, ImageOutsideRam, NotBuilt}
 use Rattle.guest_image.specs.declared.setup_file.AskedWhat.{AskedWhat}
@@ -44,18 +46,18 @@ events_for vcpus es = if nat_lt EVENTS_MOST (length es) then None else each_of (
 abbrev pub is_named : List ℕ → Function → Bool
 is_named name f = bytes_eq f.name name
 
-abbrev pub offsets_named : List ℕ → List Function → List ℕ
-offsets_named name fs = map (λ f. f.offset) (filter (is_named name) fs)
+abbrev pub starts_named : List ℕ → List Function → List Start
+starts_named name fs = map (λ f. f.at) (filter (is_named name) fs)
 
-abbrev pub only : List ℕ → Result (Option ℕ) SetupFault
+abbrev pub only : List Start → Result (Option Start) SetupFault
 only [] = Err NoHook
-only (offset ∷ []) = Ok (Some offset)
-only (offset ∷ other ∷ more) = Err NoHook
+only (start ∷ []) = Ok (Some start)
+only (start ∷ other ∷ more) = Err NoHook
 
 -- the hook is the one function that has this kept name
-abbrev pub hook_at : Option (List ℕ) → List Function → Result (Option ℕ) SetupFault
+abbrev pub hook_at : Option (List ℕ) → List Function → Result (Option Start) SetupFault
 hook_at None fs = Ok None
-hook_at (Some name) fs = only (offsets_named name fs)
+hook_at (Some name) fs = only (starts_named name fs)
 
 -- the first event that is due before the one before it, counted from k
 abbrev pub out_of_order : ℕ → ℕ → List Event → Option ℕ
@@ -71,7 +73,7 @@ ends_by end place size = nat_le (place + size) end
 
 -- text and data parts end within RAM
 abbrev pub holds_image : ℕ → Image → Bool
-holds_image ram i = ends_by (RAM_START + ram) i.base (length i.text) && list_all (λ part. ends_by (RAM_START + ram) part.0 (length part.1)) i.parts
+holds_image ram i = list_all (λ s. nat_le s.end (RAM_START + ram)) (spans_of i.ranges) && list_all (λ part. ends_by (RAM_START + ram) part.0 (length part.1)) i.parts
 
 -- the setup that is asked for, or the first fault
 unfoldable pub accepted_setup : Image → Asked → Result Setup SetupFault
@@ -85,7 +87,7 @@ accepted_setup i a = do
   order ← unless_out (out_of_order 0 0 events)
   inside ← must ImageOutsideRam (holds_image a.ram i)
   built ← must NotBuilt (not (is_some hook))
-  Ok (record { vcpus = a.vcpus; ram = a.ram; steps = a.steps; hook = hook; name_at = a.name_at; start = a.start; events = events })
+  Ok (record { vcpus = a.vcpus; ram = a.ram; steps = a.steps; hook = hook; name_at = a.name_at; start = a.start; events = events; gstage = a.gstage })
 
 -- the setup of the bytes for an image, or the first fault
 unfoldable pub setup_of : Image → List ℕ → Result Setup SetupFault

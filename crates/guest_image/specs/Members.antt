@@ -1,12 +1,8 @@
 -- The members of a JSON object by their forms.
 -- JSON is RFC 8259, as serde_json reads it: of a key that comes twice the last value counts.
-use Rattle.std.specs.Prelude.{ℕ, List, Option, Some, None, option_and_then, Result, Ok, Err}
+use Rattle.std.specs.Prelude.{ℕ, List, Option, Some, None, option_and_then}
 use Rattle.serde_json.specs.Data.{Data}
 use Rattle.serde_json.specs.Find.{get}
-
-abbrev pub or_fault : {A E : Type 0} → E → Option A → Result A E
-or_fault e (Some x) = Ok x
-or_fault e None = Err e
 
 -- the member that must be there, in the form that f reads
 unfoldable pub member_as : {A : Type 0} → (Data → Option A) → List ℕ → Data → Option A

@@ -1,18 +1,22 @@
--- The plain form of an image: an object with base, entry, text (hexadecimal, any case) and optionally data
--- ([[address,"hex"],..]) and functions ([[address,"name"],..]). The form is this project's own.
-use Rattle.std.specs.Prelude.{ℕ, nat_lt, List, [], ◌∷◌, length, codes, Bool, Option, option_map, option_and_then, Result, Ok}
+-- The plain form of an image: an object with entry and either base and text (hexadecimal, any case) or code
+-- ([[address,"hex"],..]), and optionally data, as code, and functions ([[address,"name"],..]). The form is this
+-- project's own.
+use Rattle.std.specs.Prelude.{ℕ, nat_lt, List, [], ◌∷◌, length, codes, Bool, false, not, ◌||◌, if◌then◌else◌, Option, Some, option_map, option_and_then, is_some, Result, Ok}
 use Rattle.std.specs.Result.{result_ok}
 use Rattle.std.specs.List.{filter}
 use Rattle.serde_json.specs.Data.{Data}
+use Rattle.serde_json.specs.Find.{get}
 use Rattle.hex.specs.Hex.{decode_of}
 use Rattle.json_fields.specs.Fields.{is_object, whole_of, text_of, array_of, pair_of, each_of, has_only_keys}
-use Rattle.elf_read.specs.Steps.{◌>>=◌, must}
-use Rattle.guest_image.specs.Members.{or_fault, member_as, member_or}
+use Rattle.elf_read.specs.declared.laid.Segment.{Segment}
+use Rattle.elf_read.specs.declared.laid.NamedPlace.{NamedPlace}
+use Rattle.elf_read.specs.Laid.{Layout}
 use Rattle.elf_read.specs.Starts.{kept_name}
+use Rattle.elf_read.specs.Steps.{◌>>=◌, must, or_fault}
+use Rattle.guest_image.specs.Members.{member_as, member_or}
 use Rattle.guest_image.specs.declared.image.Field.TheVariants as key
 use Rattle.guest_image.specs.declared.image.ImageFault.{ImageFault}
 use Rattle.guest_image.specs.declared.image.ImageFault.TheVariants.{Shape}
-use Rattle.guest_image.specs.declared.plain.Plain.{Plain}
 
 -- the bytes of a text of hexadecimal digits
 unfoldable pub hex_of : Data → Option (List ℕ)
@@ -22,42 +26,77 @@ hex_of d = option_and_then (λ text. result_ok (decode_of text)) (text_of d)
 unfoldable pub name_of : Data → Option (List ℕ)
 name_of d = option_map kept_name (text_of d)
 
-abbrev pub both_of : (Data → Option (List ℕ)) → Data × Data → Option (ℕ × List ℕ)
-both_of f p = option_and_then (λ place. option_map (λ x. (place, x)) (f p.1)) (whole_of p.0)
+-- bytes at a place, with no zeros behind them
+abbrev pub segment_at : ℕ → List ℕ → Segment
+segment_at place bytes = record { place = place; bytes = bytes; size = length bytes }
 
--- [address, x], x in the form that f reads
-unfoldable pub placed_of : (Data → Option (List ℕ)) → Data → Option (ℕ × List ℕ)
-placed_of f d = option_and_then (both_of f) (pair_of d)
+abbrev pub named_at : ℕ → List ℕ → NamedPlace
+named_at place name = record { place = place; name = name }
 
-abbrev pub all_placed : (Data → Option (List ℕ)) → Data → Option (List (ℕ × List ℕ))
-all_placed f d = option_and_then (each_of (placed_of f)) (array_of d)
+abbrev pub both_of : {A : Type 0} → (Data → Option (List ℕ)) → (ℕ → List ℕ → A) → Data × Data → Option A
+both_of f make p = option_and_then (λ place. option_map (make place) (f p.1)) (whole_of p.0)
 
-abbrev pub is_filled : ℕ × List ℕ → Bool
-is_filled part = nat_lt 0 (length part.1)
+-- [address,"hex"]
+unfoldable pub segment_of : Data → Option Segment
+segment_of d = option_and_then (both_of hex_of segment_at) (pair_of d)
+
+-- [address,"name"]
+unfoldable pub named_of : Data → Option NamedPlace
+named_of d = option_and_then (both_of name_of named_at) (pair_of d)
+
+-- [[address,"hex"],..]
+unfoldable pub segments_of : Data → Option (List Segment)
+segments_of d = option_and_then (each_of segment_of) (array_of d)
+
+abbrev pub is_filled : Segment → Bool
+is_filled s = nat_lt 0 s.size
 
 -- the data parts but the empty ones
-unfoldable pub parts_of : Data → Option (List (ℕ × List ℕ))
-parts_of d = option_map (filter is_filled) (all_placed hex_of d)
+unfoldable pub parts_of : Data → Option (List Segment)
+parts_of d = option_map (filter is_filled) (segments_of d)
 
--- the named places
-unfoldable pub named_of : Data → Option (List (ℕ × List ℕ))
-named_of d = all_placed name_of d
+-- [[address,"name"],..]
+unfoldable pub names_of : Data → Option (List NamedPlace)
+names_of d = option_and_then (each_of named_of) (array_of d)
 
 abbrev pub image_keys : List (List ℕ)
-image_keys = codes "base" ∷ codes "entry" ∷ codes "text" ∷ codes "data" ∷ codes "functions" ∷ []
+image_keys = codes "code" ∷ codes "base" ∷ codes "entry" ∷ codes "text" ∷ codes "data" ∷ codes "functions" ∷ []
 
 -- no key but those of an image
 unfoldable pub is_known : Data → Bool
 is_known d = has_only_keys image_keys d
 
--- what the value says, or its first key of another form
-unfoldable pub plain_of : Data → Result Plain ImageFault
-plain_of d = do
-  object ← must (Shape key.Other) (is_object d)
+unfoldable pub has_key : List ℕ → Data → Bool
+has_key name d = is_some (get name d)
+
+-- what stands beside code and entry
+unfoldable pub laid_with : List Segment → ℕ → Data → Result Layout ImageFault
+laid_with code entry d = do
+  parts ← or_fault (Shape key.«Data») (member_or parts_of [] (codes "data") d)
+  named ← or_fault (Shape key.Functions) (member_or names_of [] (codes "functions") d)
+  known ← must (Shape key.Other) (is_known d)
+  Ok (record { code = code; parts = parts; writable = false; named = named; entry = Some entry })
+
+-- with `code`, and so without base and text
+unfoldable pub coded_of : Data → Result Layout ImageFault
+coded_of d = do
+  code ← or_fault (Shape key.Code) (member_as segments_of (codes "code") d)
+  base ← must (Shape key.Base) (not (has_key (codes "base") d))
+  entry ← or_fault (Shape key.Entry) (member_as whole_of (codes "entry") d)
+  text ← must (Shape key.Text) (not (has_key (codes "text") d))
+  laid_with code entry d
+
+-- with base and text; where neither is there, `code` is what is missing
+unfoldable pub single_of : Data → Result Layout ImageFault
+single_of d = do
+  some ← must (Shape key.Code) (has_key (codes "base") d || has_key (codes "text") d)
   base ← or_fault (Shape key.Base) (member_as whole_of (codes "base") d)
   entry ← or_fault (Shape key.Entry) (member_as whole_of (codes "entry") d)
   text ← or_fault (Shape key.Text) (member_as hex_of (codes "text") d)
-  parts ← or_fault (Shape key.«Data») (member_or parts_of [] (codes "data") d)
-  named ← or_fault (Shape key.Functions) (member_or named_of [] (codes "functions") d)
-  known ← must (Shape key.Other) (is_known d)
-  Ok (record { base = base; entry = entry; text = text; parts = parts; named = named })
+  laid_with (segment_at base text ∷ []) entry d
+
+-- what the value lays out, or its first key of another form
+unfoldable pub plain_of : Data → Result Layout ImageFault
+plain_of d = do
+  object ← must (Shape key.Other) (is_object d)
+  if has_key (codes "code") d then coded_of d else single_of d

@@ -14,6 +14,7 @@ pub fn field_name(field: Field) -> &'static str
     ensures { result.now ≡ field_name field }
 {
     match field {
+        Field::Code => "code",
         Field::Base => "base",
         Field::Entry => "entry",
         Field::Text => "text",
@@ -26,6 +27,7 @@ pub fn field_name(field: Field) -> &'static str
         Field::NameAt => "name_at",
         Field::Start => "start",
         Field::Events => "events",
+        Field::Gstage => "gstage",
         Field::Other => "other",
     }
 }
@@ -39,7 +41,7 @@ pub fn elf_number(fault: ElfFault) -> u8
         ElfFault::WrongKind => 2,
         ElfFault::Truncated => 3,
         ElfFault::NoText => 4,
-        ElfFault::TwoTexts => 5,
+        ElfFault::TooManyTexts => 5,
         ElfFault::WritableText => 6,
         ElfFault::Misplaced => 7,
         ElfFault::OddFunction => 8,
@@ -59,7 +61,7 @@ pub fn elf_name(fault: ElfFault) -> &'static str
         ElfFault::WrongKind => "WrongKind",
         ElfFault::Truncated => "Truncated",
         ElfFault::NoText => "NoText",
-        ElfFault::TwoTexts => "TwoTexts",
+        ElfFault::TooManyTexts => "TooManyTexts",
         ElfFault::WritableText => "WritableText",
         ElfFault::Misplaced => "Misplaced",
         ElfFault::OddFunction => "OddFunction",

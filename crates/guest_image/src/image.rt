@@ -1,27 +1,12 @@
-//! The image of a kernel.
+//! Why a file is no image.
 
-use elf_read::parts::{ElfFault, Function};
+use elf_read::parts::ElfFault;
 use fc_numbers::memory::NoMemory;
-use fc_numbers::shared::SharedBytes;
-use sqlite_items::Items;
-
-/// The image of a kernel. `base` is the place of text and `entry` that of the first instruction; `text` is padded
-/// with zero bytes to whole pages; `parts` are the data parts, each with its place, in the order in which they are
-/// placed; `functions` stand in order of their offsets, the first at 0; `digest` is SHA-256 of base, text length,
-/// number of functions, each offset (8 bytes each, little endian) and the padded text.
-#[derive(Drop)]
-pub struct Image {
-    pub base: u64,
-    pub entry: u64,
-    pub text: SharedBytes,
-    pub parts: Items<(u64, Items<u8>)>,
-    pub functions: Items<Function>,
-    pub digest: [u8; 32],
-}
 
 /// A key of an image or a setup, or `other` for a further one.
 #[derive(Debug, Clone, Copy, PartialEq, Eq)]
 pub enum Field {
+    Code,
     Base,
     Entry,
     Text,
@@ -34,14 +19,18 @@ pub enum Field {
     NameAt,
     Start,
     Events,
+    Gstage,
     Other,
 }
 
-/// Why a file is no image: a fault of the kernel itself (1 to 12), 20 NotJson, 21 Shape.
+/// Why a file is no image.
 #[derive(Debug, Clone, Copy, PartialEq, Eq)]
 pub enum ImageFault {
+    /// A fault of an ELF file, or of the kernel that a file of either form lays out (1 to 12).
     Elf(ElfFault),
+    /// The file is not one JSON value (20).
     NotJson,
+    /// The first key that is missing, too much or of another form (21).
     Shape(Field),
 }
 

@@ -2,30 +2,22 @@
 
 ghost use Rattle.std.specs.Prelude.{◌≡◌, ◌≢◌, ◌≤◌, ◌<◌, ◌^◌, nat_le, length, map, IfOk, IfErr, IsTrue, Ok, Err};
 ghost use Rattle.std.specs.List.{list_all};
-ghost use Rattle.guest_image.specs.Limits.{is_ram_size, are_steps, only, offsets_named, is_named, hook_at, out_of_order, ends_by, holds_image, accepted_setup};
-ghost use Rattle.guest_image.specs.Accepted.{IsSetupFor};
+ghost use Rattle.fc_numbers.specs.declared.places.TheConstants.{RAM_START};
+ghost use Rattle.guest_input.specs.declared.limits.TheConstants.{EVENTS_MOST};
+ghost use Rattle.guest_input.specs.Text.{AreRanges, bytes_of, spans_of};
+ghost use Rattle.guest_image.specs.Limits.{is_ram_size, are_steps, only, starts_named, is_named, hook_at, out_of_order, ends_by, holds_image, accepted_setup};
 ghost use Rattle.guest_image.specs.declared.setup.SetupFault.TheVariants as setup;
 
-use crate::image::{Field, Image};
-use crate::setup::{Event, Setup, SetupFault, events_for};
+use crate::image::Field;
+use crate::setup::{SetupFault, events_for};
 use crate::setup_file::Asked;
-use elf_read::parts::Function;
 use fc_numbers::memory::NoMemory;
-use fc_numbers::places::{PAGE, RAM_MOST, RAM_START};
+use fc_numbers::places::{PAGE, RAM_MOST, RAM_START, Span};
+use guest_input::image::{Function, Image, PartBytes, Start};
+use guest_input::limits::{NAME_AT_MOST, STEPS_MOST, VCPUS_MOST};
+use guest_input::setup::{Event, Setup};
 use sqlite_items::Items;
 use std::alloc::Global;
-
-/// The most vCPUs.
-pub const VCPUS_MOST: u64 = 8;
-
-/// The most steps of all vCPUs together.
-pub const STEPS_MOST: u64 = 16_777_216;
-
-/// The greatest offset of a name behind a1.
-pub const NAME_AT_MOST: u64 = 65_535;
-
-/// The most device events.
-pub const EVENTS_MOST: usize = 65_536;
 
 /// Whether RAM may have this size: whole pages, at least one, and no more than the machine's largest RAM.
 fn is_ram_size(ram: u64) -> bool
@@ -52,33 +44,33 @@ fn is_named(name: &[u8], function: &Function) -> bool
     function.name.as_slice() == name
 }
 
-/// The offsets of the functions of this name.
-fn offsets_named(alloc: Global, name: &[u8], functions: &[Function]) -> Result<Vec<u32>, NoMemory>
-    ensures { IfOk result (λ offsets. offsets.items ≡ offsets_named name.now functions.now) }
+/// The starts of the functions of this name.
+fn starts_named(alloc: Global, name: &[u8], functions: &[Function]) -> Result<Vec<Start>, NoMemory>
+    ensures { IfOk result (λ starts. starts.items ≡ starts_named name.now functions.now) }
 {
-    let offsets = functions
+    let starts = functions
         .iter()
         .filter(|function| is_named(name, function))
-        .map(|function| function.offset)
+        .map(|function| function.at)
         .collect(alloc)?;
-    Ok(offsets)
+    Ok(starts)
 }
 
-/// The offset of the one function that has the hook's name.
+/// The start of the one function that has the hook's name.
 fn hook_at(
     alloc: Global,
     hook: &Option<Items<u8>>,
     functions: &[Function],
-) -> Result<Option<u32>, SetupFault>
-    ensures ok { IfOk result (λ hook_offset. hook_at hook.now functions.now ≡ Ok hook_offset) }
+) -> Result<Option<Start>, SetupFault>
+    ensures ok { IfOk result (λ start. hook_at hook.now functions.now ≡ Ok start) }
     ensures err { IfErr result (λ fault. fault ≢ setup.NoMemory → hook_at hook.now functions.now ≡ Err fault) }
 {
     let Some(name) = hook else {
         return Ok(None);
     };
-    let offsets = offsets_named(alloc, name.as_slice(), functions)?;
-    match offsets.as_slice() {
-        [offset] => Ok(Some(*offset)),
+    let starts = starts_named(alloc, name.as_slice(), functions)?;
+    match starts.as_slice() {
+        [start] => Ok(Some(*start)),
         _ => Err(SetupFault::NoHook),
     }
 }
@@ -104,21 +96,28 @@ fn ends_by(end: u64, place: u64, size: u64) -> bool
     place <= end && size <= end - place
 }
 
-fn parts_end_by(end: u64, parts: &[(u64, Items<u8>)]) -> bool
+fn parts_end_by(end: u64, parts: &[(u64, PartBytes)]) -> bool
     ensures { result ≡ list_all (λ part. ends_by end part.0 (length part.1)) parts.now }
 {
     parts
         .iter()
-        .all(|part| ends_by(end, part.0, part.1.len() as u64))
+        .all(|part| ends_by(end, part.0, part.1.len()))
+}
+
+fn ranges_end_by(end: u64, ranges: &[Span]) -> bool
+    ensures { result ≡ list_all (λ s. nat_le s.end end) ranges.now }
+{
+    ranges.iter().all(|range| range.end.0 <= end)
 }
 
 /// Whether text and data parts end within RAM of this size.
 fn holds_image(ram: u64, image: &Image) -> bool
     requires { ram ≤ RAM_MOST }
-    ensures { result ≡ holds_image ram image.now }
+    ensures value { result ≡ holds_image ram image.now }
+    ensures lawful { AreRanges (spans_of image.now.ranges) (bytes_of image.now.ranges) }
 {
     let end = RAM_START + ram;
-    ends_by(end, image.base, image.text.len() as u64) && parts_end_by(end, image.parts.as_slice())
+    ranges_end_by(end, image.ranges.spans()) && parts_end_by(end, image.parts.as_slice())
 }
 
 /// The setup that is asked for, or the first fault.
@@ -126,6 +125,7 @@ fn holds_image(ram: u64, image: &Image) -> bool
 pub(crate) fn accept_setup(alloc: Global, image: &Image, asked: Asked) -> Result<Setup, SetupFault>
     ensures ok { IfOk result (λ accepted. accepted_setup image.now asked ≡ Ok accepted) }
     ensures err { IfErr result (λ fault. fault ≢ setup.NoMemory → accepted_setup image.now asked ≡ Err fault) }
+    ensures lawful { IfOk result (λ _. AreRanges (spans_of image.now.ranges) (bytes_of image.now.ranges)) }
 {
     if asked.vcpus < 1 || asked.vcpus > VCPUS_MOST {
         return Err(SetupFault::Limit(Field::Vcpus));
@@ -160,5 +160,6 @@ pub(crate) fn accept_setup(alloc: Global, image: &Image, asked: Asked) -> Result
         name_at: asked.name_at,
         start: asked.start,
         events,
+        gstage: asked.gstage,
     })
 }

@@ -1,56 +1,36 @@
-//! The setup of a run.
+//! Why a file is no setup, and its events.
 
 ghost use Rattle.std.specs.Prelude.{◌≡◌, ◌≤◌, IfOk};
+ghost use Rattle.guest_input.specs.declared.limits.TheConstants.{VCPUS_MOST};
 ghost use Rattle.guest_image.specs.Limits.{what_for, events_for};
 
 use crate::image::Field;
-use crate::limits::{EVENTS_MOST, VCPUS_MOST};
 use crate::setup_file::{AskedEvent, AskedWhat};
 use fc_numbers::memory::NoMemory;
-use fc_numbers::name::Name;
 use fc_numbers::places::VcpuNo;
+use guest_input::limits::EVENTS_MOST;
+use guest_input::setup::{Event, What};
 use sqlite_items::Items;
 use std::alloc::Global;
-
-/// What a device event does: a key is there, or the external line of a vCPU is raised or dropped.
-#[derive(Debug, Clone, Copy, PartialEq, Eq)]
-pub enum What {
-    Key(u8),
-    Raise(VcpuNo),
-    Drop(VcpuNo),
-}
-
-/// A device event, due from clock `at` on.
-#[derive(Debug, Clone, Copy, PartialEq, Eq)]
-pub struct Event {
-    pub at: u64,
-    pub what: What,
-}
-
-/// How a run is set up: the number of vCPUs, the bytes of RAM, the steps of each vCPU, the offset of the hook
-/// function in text, the offset of the name behind a1 at the hook, the first app name of every vCPU, and the device
-/// events in order of their clocks.
-#[derive(Drop)]
-pub struct Setup {
-    pub vcpus: u8,
-    pub ram: u64,
-    pub steps: u32,
-    pub hook: Option<u32>,
-    pub name_at: u64,
-    pub start: Option<Name>,
-    pub events: Items<Event>,
-}
 
 /// Why a file is no setup for an image. The names are printed, and their numbers are 1 to 7 in this order, and 30.
 #[derive(Debug, Clone, Copy, PartialEq, Eq)]
 pub enum SetupFault {
+    /// The file is not one JSON value.
     NotJson,
+    /// The first key that is missing, too much or of another form.
     Shape(Field),
+    /// The first value beyond what a machine may have.
     Limit(Field),
+    /// The hook is not the name of exactly one function.
     NoHook,
+    /// The first event, counted from 0, that is due before the one before it.
     EventOrder(u32),
+    /// Text or a data part goes past the end of RAM.
     ImageOutsideRam,
+    /// An allocation was refused.
     NoMemory,
+    /// There is a hook.
     NotBuilt,
 }
 

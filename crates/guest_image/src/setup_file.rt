@@ -4,17 +4,22 @@ ghost use Rattle.std.specs.Prelude.{◌≡◌, ◌≢◌, [], codes, map, None, 
 ghost use Rattle.serde_json.specs.View.{view};
 ghost use Rattle.json_fields.specs.Fields.{whole_of};
 ghost use Rattle.guest_image.specs.Members.{member_as, member_or};
-ghost use Rattle.guest_image.specs.Asked.{hook_of, start_of, what_of, event_of, events_of, is_setup_known, asked_of, app_name_of};
+ghost use Rattle.guest_image.specs.Asked.{hook_of, start_of, what_of, event_of, events_of, is_setup_known, asked_of, app_name_of, kind_named, kind_of};
 ghost use Rattle.guest_image.specs.Limits.{setup_of};
-ghost use Rattle.guest_image.specs.Accepted.{IsSetupFor};
+ghost use Rattle.guest_input.specs.Accepted.{IsSetupFor};
+ghost use Rattle.guest_input.specs.Text.{AreRanges, bytes_of, spans_of};
+ghost use Rattle.fc_numbers.specs.declared.machine.GKind.TheVariants.{Sv39x4};
 ghost use Rattle.guest_image.specs.declared.setup.SetupFault.TheVariants as setup;
 
-use crate::image::{Field, Image};
+use crate::image::Field;
 use crate::limits::accept_setup;
 use crate::plain::whole_member;
-use crate::setup::{Setup, SetupFault};
+use crate::setup::SetupFault;
+use fc_numbers::machine::GKind;
 use fc_numbers::memory::NoMemory;
 use fc_numbers::name::Name;
+use guest_input::image::Image;
+use guest_input::setup::Setup;
 use json_fields::fields::{array, has_only, is_null, is_object, member, text, triple, whole};
 use json_fields::parse::{Unread, parse};
 use serde_json::Value;
@@ -46,6 +51,7 @@ pub(crate) struct Asked {
     pub name_at: u64,
     pub start: Option<Name>,
     pub events: Items<AskedEvent>,
+    pub gstage: GKind,
 }
 
 /// The number at the key, or 0 where there is none.
@@ -179,6 +185,39 @@ fn events_member(alloc: Global, value: &Value) -> Result<Option<Items<AskedEvent
     }
 }
 
+/// The kind of second-stage tables of this name.
+fn kind_named(name: &str) -> Option<GKind>
+    ensures { result ≡ kind_named name.now }
+{
+    if name == "sv39x4" {
+        Some(GKind::Sv39x4)
+    } else if name == "sv48x4" {
+        Some(GKind::Sv48x4)
+    } else {
+        None
+    }
+}
+
+#[tactic(auto, unfolding(crate::specs::Asked::kind_of))]
+fn read_kind(value: &Value) -> Option<GKind>
+    ensures { result ≡ kind_of (view value.now) }
+{
+    match text(value) {
+        Some(name) => kind_named(name),
+        None => None,
+    }
+}
+
+#[tactic(auto, unfolding(crate::specs::Members::member_or))]
+fn kind_member(value: &Value) -> Option<GKind>
+    ensures { result ≡ member_or kind_of Sv39x4 (codes "gstage") (view value.now) }
+{
+    match member(value, "gstage") {
+        Some(found) => read_kind(found),
+        None => Some(GKind::Sv39x4),
+    }
+}
+
 /// Whether the value has no key but those of a setup.
 #[tactic(auto, unfolding(crate::specs::Asked::is_setup_known))]
 fn is_known(value: &Value) -> bool
@@ -187,7 +226,7 @@ fn is_known(value: &Value) -> bool
     has_only(
         value,
         &[
-            "vcpus", "ram", "steps", "hook", "name_at", "start", "events",
+            "vcpus", "ram", "steps", "hook", "name_at", "start", "events", "gstage",
         ],
     )
 }
@@ -222,6 +261,9 @@ pub(crate) fn read_asked(alloc: Global, value: &Value) -> Result<Asked, SetupFau
     let Some(events) = events_member(alloc, value)? else {
         return Err(SetupFault::Shape(Field::Events));
     };
+    let Some(gstage) = kind_member(value) else {
+        return Err(SetupFault::Shape(Field::Gstage));
+    };
     if !is_known(value) {
         return Err(SetupFault::Shape(Field::Other));
     }
@@ -233,6 +275,7 @@ pub(crate) fn read_asked(alloc: Global, value: &Value) -> Result<Asked, SetupFau
         name_at,
         start,
         events,
+        gstage,
     })
 }
 
@@ -241,6 +284,7 @@ pub(crate) fn read_asked(alloc: Global, value: &Value) -> Result<Asked, SetupFau
 fn read_accepted(alloc: Global, bytes: &[u8], image: &Image) -> Result<Setup, SetupFault>
     ensures ok { IfOk result (λ accepted. setup_of image.now bytes.now ≡ Ok accepted) }
     ensures err { IfErr result (λ fault. fault ≢ setup.NoMemory → setup_of image.now bytes.now ≡ Err fault) }
+    ensures lawful { IfOk result (λ _. AreRanges (spans_of image.now.ranges) (bytes_of image.now.ranges)) }
 {
     let value = match parse(alloc, bytes) {
         Ok(value) => value,
@@ -252,7 +296,8 @@ fn read_accepted(alloc: Global, bytes: &[u8], image: &Image) -> Result<Setup, Se
 }
 
 /// The setup of a run for an image: one JSON object with `vcpus`, `ram` and `steps`, and optionally `hook`,
-/// `name_at`, `start` and `events` (`[[clock,"key",byte],[clock,"raise",vcpu],[clock,"drop",vcpu],..]`).
+/// `name_at`, `start`, `events` (`[[clock,"key",byte],[clock,"raise",vcpu],[clock,"drop",vcpu],..]`) and `gstage`
+/// (`"sv39x4"` or `"sv48x4"`).
 ///
 /// An Err is the first fault of the file by its number, or want of memory.
 pub fn read_setup(alloc: Global, bytes: &[u8], image: &Image) -> Result<Setup, SetupFault>

@@ -1,7 +1,7 @@
 use Rattle.std.proofs.Common.{get_or, Some, ap, sym, ◌∙◌, nat_lt, length}
 use Rattle.guest_image.specs.Limits.{event_for, events_for}
-use Rattle.guest_image.specs.declared.limits.TheConstants.{EVENTS_MOST}
-use Rattle.guest_image.specs.declared.setup.Event.{Event}
+use Rattle.guest_input.specs.declared.limits.TheConstants.{EVENTS_MOST}
+use Rattle.guest_input.specs.declared.setup.Event.{Event}
 use Rattle.guest_image.specs.declared.setup_file.AskedEvent.{AskedEvent}
 use Rattle.guest_image.specs.declared.setup_file.AskedWhat.TheVariants as asked
 use Rattle.guest_image.proofs.Setups.{event_for-some, event_for-none, each_of-next, each_of-gap, none_either}

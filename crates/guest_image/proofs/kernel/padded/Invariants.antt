@@ -1,5 +1,0 @@
-use Rattle.std.proofs.Common.{◌≡◌, ◌++◌, ◌-◌, length, replicate}
-use Rattle.guest_image.proofs.kernel.padded.Given as goal
-
-abbrev pub invariant-loop : goal.invariant-loop
-invariant-loop l = l.bytes.items ≡ l.text ++ replicate (l.counter - length l.text) 0

@@ -1,0 +1,21 @@
+use Rattle.std.proofs.Common.{◌≡◌, get_or, Some, None, option_and_then, ap, sym, ◌∙◌}
+use Rattle.json_fields.specs.Fields.{each_of}
+use Rattle.json_fields.proofs.Lists.{each_of-missing, each_of-more}
+use Rattle.serde_json.specs.View.{view}
+use Rattle.guest_image.specs.Plain.{named_of, names_of}
+use Rattle.guest_image.proofs.plain.read_names.Goals as goal
+
+pub returns-in_default-2 : goal.returns-in_default-2
+unfolding names_of
+returns-in_default-2 c =
+    let here : named_of (view (get_or c.in-Some.items.now c.loop-item.item-index c.item-item.result)) ≡ None =
+    ap (λ v. named_of (view v)) (sym c.item-item.is) ∙ sym c.in_ok-function.ensures ∙ c.in_default-2.is in
+    let missing = each_of-missing view named_of c.in-Some.items.now c.loop-item.item-index c.item-item.result c.loop-item-test.true here in
+    sym (ap (option_and_then (each_of named_of)) (sym c.in-Some.ensures) ∙ missing)
+
+pub loop-item-preserved : goal.loop-item-preserved
+loop-item-preserved c =
+    let here : named_of (view (get_or c.in-Some.items.now c.loop-item.item-index c.item-item.result)) ≡ Some c.in-Some-2.function =
+    ap (λ v. named_of (view v)) (sym c.item-item.is) ∙ sym c.in_ok-function.ensures ∙ c.in-Some-2.is in
+    each_of-more view named_of c.in-Some.items.now c.loop-item.item-index c.item-item.result c.loop-item.named c.in-Some-2.function c.loop-item-test.true c.loop-item.invariant here
+    ∙ ap Some (sym c.in_ok-push.ensures.ok)
