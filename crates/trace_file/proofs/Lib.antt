@@ -1,0 +1,13 @@
+pub mod CutLaws
+pub mod Cuts
+pub mod Differences
+pub mod EntryLaws
+pub mod Forms
+pub mod IsForm
+pub mod Loops
+pub mod NoFault
+pub mod Numbers
+pub mod RunLaws
+pub mod StateLaws
+pub mod Texts
+pub mod TraceLaws

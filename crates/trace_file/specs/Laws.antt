@@ -1,0 +1,18 @@
+-- Laws of the texts of traces.
+use Rattle.std.specs.Prelude.{◌≡◌, ℕ, ◌≤◌, nat_lt, if◌then◌else◌, List, [], ◌++◌, length, Ok, Err}
+use Rattle.trace_file.specs.declared.fault.TraceFault.TheVariants.{NotTrace, Truncated}
+use Rattle.trace_file.specs.Trace.{Told, text_of, trace_of}
+use Rattle.trace_file.specs.Lawful.{IsLawful}
+
+-- the text of a lawful trace is read as that trace
+abbrev pub WrittenIsRead : Type 0
+WrittenIsRead = (t : Told) → IsLawful t → trace_of (text_of t) ≡ Ok t
+
+-- where one text begins another, nothing follows, and the traces are one
+abbrev pub NoTextBeginsAnother : Type 0
+NoTextBeginsAnother = (a b : Told) (rest : List ℕ) → IsLawful a → IsLawful b → text_of b ≡ text_of a ++ rest → (rest ≡ []) × (a ≡ b)
+
+-- a text that breaks off is no trace's: below 9 bytes it does not begin as one, and then it is cut short
+abbrev pub ShorterIsRefused : Type 0
+ShorterIsRefused = (t : Told) (front back : List ℕ) → IsLawful t → text_of t ≡ front ++ back → 1 ≤ length back
+    → trace_of front ≡ Err (if nat_lt (length front) 9 then NotTrace else Truncated (length front))

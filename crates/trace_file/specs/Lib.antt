@@ -1,0 +1,11 @@
+pub mod Entries
+pub mod Faults
+pub mod Form
+pub mod Gives
+pub mod Laws
+pub mod Lawful
+pub mod Runs
+pub mod Script
+pub mod States
+pub mod Trace
+pub mod Values
