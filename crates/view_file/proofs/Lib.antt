@@ -4,4 +4,5 @@ pub mod Chosen
 pub mod EachOf
 pub mod Functions
 pub mod Leasts
+pub mod Once
 pub mod Ordered
