@@ -1,11 +1,10 @@
 -- What answers are as statuses and as lines on standard error.
+-- Words are those of this project's table of answers.
 use Rattle.std.specs.Prelude.{◌≡◌, ℕ, List, [], codes, get_or, string_bytes, Some, None}
 use Rattle.fc_numbers.specs.declared.machine.Stop.{Stop}
 use Rattle.fc_numbers.specs.declared.machine.Stop.TheVariants.{StoreToText, TableInText, KernelOutsideText, TextSplit}
-use Rattle.command_frame.specs.Faults.{file_kind, fault_text}
+use Rattle.command_frame.specs.Faults.{file_kind, kind_status, kind_word, fault_text}
 use Rattle.command_frame.specs.Lines.{line_with}
-use Rattle.command_frame.specs.declared.fault.Kind.{Kind}
-use Rattle.command_frame.specs.declared.fault.Kind.TheVariants as kind
 use Rattle.command_frame.specs.declared.answer.Ended.{Ended}
 use Rattle.command_frame.specs.declared.answer.Ended.TheVariants.{Finished, Stopped, Differs}
 use Rattle.command_frame.specs.declared.answer.Answer.{Answer}
@@ -23,19 +22,24 @@ stop_name TextSplit = codes "TextSplit"
 abbrev pub word_at : List (List ℕ) → ℕ → List ℕ
 word_at words n = get_or words n []
 
--- a file of this kind is refused
-abbrev pub refused_as : Kind → Status
-refused_as kind.Image = status.Image
-refused_as kind.Views = status.Views
-
 abbrev pub status_of : Answer → Status
 status_of (Served Finished) = status.Finished
 status_of (Served (Stopped stop)) = status.Stopped
 status_of (Served (Differs text)) = status.Differs
-status_of (Refused why) = refused_as (file_kind why)
+status_of (Refused why) = kind_status (file_kind why)
 status_of (Unread n) = status.Unread
 status_of (Unwritten n) = status.Unwritten
 status_of NoMemory = status.NoMemory
+
+-- the word of the line
+abbrev pub word_of : Answer → List ℕ
+word_of (Served Finished) = []
+word_of (Served (Stopped stop)) = codes " stop "
+word_of (Served (Differs text)) = codes " differs "
+word_of (Refused why) = kind_word (file_kind why)
+word_of (Unread n) = codes " read "
+word_of (Unwritten n) = codes " write "
+word_of NoMemory = codes " memory"
 
 -- what happened, to what, or where
 abbrev pub detail_of : List (List ℕ) → Answer → List ℕ
@@ -51,7 +55,7 @@ detail_of words NoMemory = []
 -- the line that tells an answer; none for a command that finished
 abbrev pub answer_line : List (List ℕ) → Answer → List ℕ
 answer_line words (Served Finished) = []
-answer_line words answer = line_with (status_of answer) (detail_of words answer)
+answer_line words answer = line_with (status_of answer) (word_of answer) (detail_of words answer)
 
 -- the text that was formed for an answer is that of its fault
 abbrev pub IsFormed : Answer → List ℕ → Type 0

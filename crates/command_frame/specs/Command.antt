@@ -1,7 +1,7 @@
 -- What an answer to a request means: what was made, what is left where, and which faults were counted.
 -- The rule: the words; then each input file in the promise's order, read, then accepted; then the product, its files in
 -- order, then standard output.
-use Rattle.std.specs.Prelude.{◌≡◌, ◌≢◌, ℕ, ◌⊎◌, Some, None, List, [], ◌∷◌, map, Result, Ok, Err, IfOk}
+use Rattle.std.specs.Prelude.{◌≡◌, ◌≢◌, ℕ, ◌⊎◌, Some, None, List, [], ◌∷◌, map, codes, Result, Ok, Err, IfOk}
 use Rattle.fc_outside.specs.Outside.{Files, Faults, file_at, IsFaultOf, IsFault}
 use Rattle.command_frame.specs.Answers.{word_at, answer_line, status_of}
 use Rattle.command_frame.specs.Lines.{number_of, line_with}
@@ -103,5 +103,5 @@ pub record IsServed (r : Request) (before after : Outside) (told : List ℕ → 
 -- the words are no listed form: 2, and nothing is read or written but the line
 pub record IsTurnedAway (before after : Outside) (told : List ℕ → Type 0) (status : ℕ) : Type 0 where
   pub is : status ≡ number_of Words
-  pub line : told (line_with Words [])
+  pub line : told (line_with Words (codes " words") [])
   pub same : after ≡ before

@@ -1,6 +1,6 @@
--- Statuses as numbers and as lines on standard error.
--- Numbers and words are those of this project's table of answers. A line is the number, the word, and what is told besides.
-use Rattle.std.specs.Prelude.{◌≡◌, ℕ, Bool, true, false, Option, List, [], ◌++◌, codes, decimal}
+-- Statuses as numbers, and lines on standard error: the number, a word for what happened, and what is told besides.
+-- The numbers are those of this project's table of answers.
+use Rattle.std.specs.Prelude.{◌≡◌, ℕ, Bool, true, false, Option, List, ◌++◌, codes, decimal}
 use Rattle.fc_outside.specs.Outside.{Rose, with_more}
 use Rattle.command_frame.specs.declared.status.Status.{Status}
 use Rattle.command_frame.specs.declared.status.Status.TheVariants.{Finished, Words, Image, Views, Unread, Unwritten, Stopped, NoMemory, Differs}
@@ -16,20 +16,9 @@ number_of Stopped = 9
 number_of NoMemory = 10
 number_of Differs = 11
 
--- the word, with a space before it, and one behind it where a detail follows
-abbrev pub word_of : Status → List ℕ
-word_of Finished = []
-word_of Words = codes " words"
-word_of Image = codes " image "
-word_of Views = codes " views "
-word_of Unread = codes " read "
-word_of Unwritten = codes " write "
-word_of Stopped = codes " stop "
-word_of NoMemory = codes " memory"
-word_of Differs = codes " differs "
-
-abbrev pub line_with : Status → List ℕ → List ℕ
-line_with status detail = decimal (number_of status) ++ word_of status ++ detail ++ codes "\n"
+-- the word has a space before it, and one behind it where a detail follows
+abbrev pub line_with : Status → List ℕ → List ℕ → List ℕ
+line_with status word detail = decimal (number_of status) ++ word ++ detail ++ codes "\n"
 
 -- the stream grew by the line, where it tells its bytes and counted no fault
 abbrev pub IsTold : ℕ → ℕ → Option (List ℕ) → Option (List ℕ) → List ℕ → Type 0

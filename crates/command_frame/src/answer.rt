@@ -1,9 +1,9 @@
 //! What a command comes to: its status, and what the line on standard error says besides.
 
 ghost use Rattle.std.specs.Prelude.{◌≡◌, map, string_bytes};
-ghost use Rattle.command_frame.specs.Answers.{status_of, stop_name, word_at, detail_of, IsFormed};
+ghost use Rattle.command_frame.specs.Answers.{status_of, word_of, stop_name, word_at, detail_of, IsFormed};
 
-use crate::fault::{Fault, Kind};
+use crate::fault::Fault;
 use crate::status::Status;
 use fc_numbers::machine::Stop;
 
@@ -64,13 +64,25 @@ impl Answer {
             Answer::Served(Ended::Finished) => Status::Finished,
             Answer::Served(Ended::Stopped(_)) => Status::Stopped,
             Answer::Served(Ended::Differs(_)) => Status::Differs,
-            Answer::Refused(fault) => match fault.kind() {
-                Kind::Image => Status::Image,
-                Kind::Views => Status::Views,
-            },
+            Answer::Refused(fault) => fault.kind().status(),
             Answer::Unread(_) => Status::Unread,
             Answer::Unwritten(_) => Status::Unwritten,
             Answer::NoMemory => Status::NoMemory,
+        }
+    }
+
+    /// The word of the line, with a space before it, and one behind it where a detail follows.
+    pub(crate) fn word(&self) -> &'static str
+        ensures { result.now ≡ word_of self.now }
+    {
+        match self {
+            Answer::Served(Ended::Finished) => "",
+            Answer::Served(Ended::Stopped(_)) => " stop ",
+            Answer::Served(Ended::Differs(_)) => " differs ",
+            Answer::Refused(fault) => fault.kind().word(),
+            Answer::Unread(_) => " read ",
+            Answer::Unwritten(_) => " write ",
+            Answer::NoMemory => " memory",
         }
     }
 

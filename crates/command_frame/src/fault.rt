@@ -3,8 +3,9 @@
 ghost use Rattle.std.specs.Prelude.{◌≡◌, codes, string_bytes, IfOk};
 ghost use Rattle.guest_image.specs.Faults.{image_fault_text};
 ghost use Rattle.view_file.specs.Faults.{shown_fault};
-ghost use Rattle.command_frame.specs.Faults.{file_kind, fault_text};
+ghost use Rattle.command_frame.specs.Faults.{file_kind, kind_status, kind_word, fault_text};
 
+use crate::status::Status;
 use fc_numbers::memory::NoMemory;
 use guest_image::image::ImageFault;
 use std::alloc::Global;
@@ -28,6 +29,28 @@ pub enum Fault {
     Image(ImageFault),
     /// The bytes give no views, for this reason.
     Views(ViewFault),
+}
+
+impl Kind {
+    /// How the program ends where a file that is to hold this is refused.
+    pub(crate) fn status(self) -> Status
+        ensures { result ≡ kind_status self }
+    {
+        match self {
+            Kind::Image => Status::Image,
+            Kind::Views => Status::Views,
+        }
+    }
+
+    /// The word of the line, with a space before it and one behind it.
+    pub(crate) fn word(self) -> &'static str
+        ensures { result.now ≡ kind_word self }
+    {
+        match self {
+            Kind::Image => " image ",
+            Kind::Views => " views ",
+        }
+    }
 }
 
 impl Fault {

@@ -7,6 +7,7 @@ ghost use Rattle.command_frame.specs.Finished.{outside_of, written, Writes, IsDo
 
 use crate::answer::{Answer, word_at};
 use crate::product::{Product, Refusal, Written};
+use fc_numbers::memory::NoMemory;
 use fc_outside::outside::{Sink, Store};
 use std::alloc::Global;
 
@@ -90,7 +91,7 @@ pub fn finish<S: Store, K: Sink>(
                 answer: Answer::Refused(fault),
                 formed,
             },
-            Err(_) => plain(alloc, Answer::NoMemory),
+            Err(NoMemory) => plain(alloc, Answer::NoMemory),
         },
         Err(Refusal::Unread(at)) => plain(alloc, Answer::Unread(at)),
         Err(Refusal::NoMemory) => plain(alloc, Answer::NoMemory),

@@ -1,7 +1,7 @@
-//! How the program ends: a number, and the word that the line on standard error has for it.
+//! How the program ends, as a number.
 
 ghost use Rattle.std.specs.Prelude.{◌≡◌};
-ghost use Rattle.command_frame.specs.Lines.{number_of, word_of};
+ghost use Rattle.command_frame.specs.Lines.{number_of};
 
 /// How the program ends. The number of each is the status that its caller sees.
 #[derive(Debug, Clone, Copy, PartialEq, Eq)]
@@ -32,22 +32,5 @@ impl Status {
         ensures { result ≡ number_of self }
     {
         self as u8
-    }
-
-    /// The word of the line, with a space before it, and one behind it where a detail follows.
-    pub(crate) fn word(self) -> &'static str
-        ensures { result.now ≡ word_of self }
-    {
-        match self {
-            Status::Finished => "",
-            Status::Words => " words",
-            Status::Image => " image ",
-            Status::Views => " views ",
-            Status::Unread => " read ",
-            Status::Unwritten => " write ",
-            Status::Stopped => " stop ",
-            Status::NoMemory => " memory",
-            Status::Differs => " differs ",
-        }
     }
 }
