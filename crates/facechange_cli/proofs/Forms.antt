@@ -1,7 +1,7 @@
 -- When words are a listed form.
 use Rattle.std.proofs.Common.{◌≡◌, ℕ, zero, suc, ◌≤◌, ◌<◌, List, [], ◌∷◌, length, arith, refl, ◌∙◌, sym, ap, map, decimal}
 use Rattle.std.specs.Prelude.{get_or}
-use Rattle.guest_image.specs.declared.limits.TheConstants.{STEPS_MOST}
+use Rattle.guest_input.specs.declared.limits.TheConstants.{STEPS_MOST}
 use Rattle.facechange_cli.specs.Words.{IsNoForm}
 
 pub bad-steps : (words : List (List ℕ)) (word : List ℕ) → get_or words 4 [] ≡ word

@@ -2,7 +2,7 @@
 use Rattle.std.specs.Prelude.{Result, IfOk}
 use Rattle.std.proofs.Common.{◌≡◌, Some, Ok, Err, inl}
 use Rattle.fc_outside.specs.Outside.{Faults}
-use Rattle.guest_image.specs.declared.image.Image.{Image}
+use Rattle.guest_input.specs.declared.image.Image.{Image}
 use Rattle.facechange_cli.specs.Words.{Wanted}
 use Rattle.facechange_cli.specs.Files.{GivesImage, ImageSaid, ImageCounts, ViewsSaid, ViewsCounts}
 use Rattle.facechange_cli.specs.Command.{Outside, Told, IsRefusal, IsAnswer, IsUntouched, CountsReads}

@@ -4,7 +4,7 @@
 use Rattle.std.specs.Prelude.{◌≡◌, ℕ, ◌⊎◌, Option, Some, List, codes}
 use Rattle.fc_numbers.specs.declared.machine.End.{End}
 use Rattle.fc_outside.specs.Outside.{Files, Faults, Rose, IsFaultOf, IsFault, SameBut, holding, with_more, GrewByPart}
-use Rattle.guest_image.specs.declared.image.Image.{Image}
+use Rattle.guest_input.specs.declared.image.Image.{Image}
 use Rattle.run_evidence.specs.Config.{Config, IsConfig}
 use Rattle.facechange_cli.specs.Words.{Wanted, IsTry, IsNoForm}
 use Rattle.facechange_cli.specs.Files.{GivesImage, RefusesImage, GivesViews, RefusesViews}

@@ -1,7 +1,7 @@
 -- Each cause has its answer: where no fault was counted, files decide what is answered, but for want of memory.
 use Rattle.std.specs.Prelude.{◌≡◌, ◌⊎◌, Some}
 use Rattle.fc_outside.specs.Outside.{Rose}
-use Rattle.guest_image.specs.declared.image.Image.{Image}
+use Rattle.guest_input.specs.declared.image.Image.{Image}
 use Rattle.run_evidence.specs.Config.{Config}
 use Rattle.facechange_cli.specs.Words.{Wanted}
 use Rattle.facechange_cli.specs.Files.{GivesImage, RefusesImage, RefusesViews}

@@ -2,7 +2,7 @@
 -- The rule: a file over the limit is refused before it is looked at; else its bytes have an image, or a first fault.
 use Rattle.std.specs.Prelude.{◌≡◌, ◌≢◌, ℕ, ◌<◌, ◌≤◌, Option, Some, List, length, Result, Ok, Err}
 use Rattle.fc_outside.specs.Outside.{Faults, IsFaultOf}
-use Rattle.guest_image.specs.declared.image.Image.{Image}
+use Rattle.guest_input.specs.declared.image.Image.{Image}
 use Rattle.guest_image.specs.ImageFile.{image_of}
 use Rattle.view_file.specs.declared.views.Views.{Views}
 use Rattle.view_file.specs.Fits.{Reads}

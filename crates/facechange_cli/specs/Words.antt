@@ -3,8 +3,8 @@
 use Rattle.std.specs.Prelude.{◌≡◌, ℕ, ◌≤◌, ◌&&◌, nat_le, Bool, true, false, Some, None, List, [], ◌∷◌, codes, decimal}
 use Rattle.fc_numbers.specs.Names.{is_app_name}
 use Rattle.fc_numbers.specs.declared.places.TheConstants.{RAM_MOST}
-use Rattle.guest_image.specs.declared.limits.TheConstants.{STEPS_MOST}
-use Rattle.guest_image.specs.declared.setup.Setup.{Setup}
+use Rattle.guest_input.specs.declared.limits.TheConstants.{STEPS_MOST}
+use Rattle.guest_input.specs.declared.setup.Setup.{Setup}
 
 -- the names of the files, and the setup of the run
 pub record Wanted : Type 0 where

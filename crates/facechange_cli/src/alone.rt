@@ -2,7 +2,7 @@
 
 ghost use Rattle.std.specs.Prelude.{◌≡◌, ◌≢◌, ◌<◌, ℕ, List, Some, None, All, IfOk};
 ghost use Rattle.std.specs.List.{flat_map};
-ghost use Rattle.guest_image.specs.Accepted.{IsImage, IsSetupFor};
+ghost use Rattle.guest_input.specs.Accepted.{IsImage, IsSetupFor};
 ghost use Rattle.function_table.specs.Groups.{groups_of, groups_count, in_text};
 ghost use Rattle.chain_log.specs.Line.{line_of};
 ghost use Rattle.view_file.specs.Fits.{IsViewsFor};
@@ -18,8 +18,8 @@ use fc_numbers::machine::End;
 use fc_numbers::memory::NoMemory;
 use fc_numbers::places::{VcpuNo, ViewNo};
 use function_table::table::Table;
-use guest_image::image::Image;
-use guest_image::setup::Setup;
+use guest_input::image::Image;
+use guest_input::setup::Setup;
 use std::alloc::Global;
 use vcpu_core::lane::Went;
 use vcpu_core::machine::Core;

@@ -2,7 +2,7 @@
 
 ghost use Rattle.std.specs.Prelude.{◌≡◌, ◌≤◌, ℕ, List, Option, Some, Ok, Err, IfOk, length};
 ghost use Rattle.fc_outside.specs.Outside.{Faults};
-ghost use Rattle.guest_image.specs.Accepted.{IsImage};
+ghost use Rattle.guest_input.specs.Accepted.{IsImage};
 ghost use Rattle.function_table.specs.Groups.{groups_of};
 ghost use Rattle.view_file.specs.Fits.{IsViewsFor};
 ghost use Rattle.facechange_cli.specs.Files.{ImageSaid, ImageCounts, ViewsSaid, ViewsCounts};

@@ -2,13 +2,13 @@
 
 ghost use Rattle.std.specs.Prelude.{◌≡◌, ◌≤◌, ℕ, decimal, string_bytes, map, IfSome, IfNone};
 ghost use Rattle.fc_numbers.specs.Names.{is_app_name};
-ghost use Rattle.guest_image.specs.declared.limits.TheConstants.{STEPS_MOST};
+ghost use Rattle.guest_input.specs.declared.limits.TheConstants.{STEPS_MOST};
 ghost use Rattle.facechange_cli.specs.Words.{Wanted, IsTry, IsNoForm, is_plain, setup_for};
 
 use fc_numbers::name::Name;
 use fc_numbers::places::RAM_MOST;
-use guest_image::limits::STEPS_MOST;
-use guest_image::setup::Setup;
+use guest_input::limits::STEPS_MOST;
+use guest_input::setup::Setup;
 use sqlite_items::Items;
 use std::alloc::Global;
 use std::marker::Model;

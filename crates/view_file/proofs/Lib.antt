@@ -4,5 +4,6 @@ pub mod Chosen
 pub mod EachOf
 pub mod Functions
 pub mod Leasts
+pub mod Once
 pub mod Ordered
 pub mod TestKernel

@@ -3,4 +3,5 @@ pub mod Faults
 pub mod Fits
 pub mod Least
 pub mod Named
+pub mod Once
 pub mod Written

@@ -1,5 +1,5 @@
 use Rattle.std.proofs.Common.{◌∙◌, ap, sym, subst, Err}
-use Rattle.guest_image.specs.Accepted.{IsSetupFor}
+use Rattle.guest_input.specs.Accepted.{IsSetupFor}
 use Rattle.facechange_cli.specs.Words.{Wanted}
 use Rattle.facechange_cli.specs.Files.{GivesImage, GivesViews, ViewsSaid}
 use Rattle.facechange_cli.proofs.Refusals.{views-said}

@@ -1,0 +1,4 @@
+pub mod Written
+pub mod Answered
+pub mod Sure
+pub mod Exact

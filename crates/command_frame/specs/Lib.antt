@@ -1,0 +1,9 @@
+pub mod Lines
+pub mod Faults
+pub mod Answers
+pub mod Files
+pub mod Promise
+pub mod Taken
+pub mod Finished
+pub mod Command
+pub mod Exact

@@ -1,0 +1,96 @@
+//! The files that a command takes. Each call reads a file and accepts it, or says why there is none.
+
+ghost use Rattle.std.specs.Prelude.{◌≡◌, ◌≤◌, ℕ, List, Option, Some, Ok, Err, IfOk, map, string_bytes, length};
+ghost use Rattle.fc_outside.specs.Outside.{Faults};
+ghost use Rattle.guest_input.specs.Accepted.{IsImage};
+ghost use Rattle.function_table.specs.Groups.{groups_of};
+ghost use Rattle.view_file.specs.Fits.{IsViewsFor};
+ghost use Rattle.command_frame.specs.Answers.{word_at};
+ghost use Rattle.command_frame.specs.Files.{IsHeld, IsTooLong, GivesImage, RefusesImage, GivesViews, RefusesViews};
+ghost use Rattle.command_frame.specs.Promise.{Told, held_by};
+ghost use Rattle.command_frame.specs.Taken.{BytesSaid, Takes, Counts};
+
+use crate::answer::word_at;
+use crate::fault::{Fault, Kind};
+use crate::product::Refusal;
+use elf_read::parts::ElfFault;
+use fc_outside::outside::{ReadNo, Store};
+use function_table::table::Table;
+use guest_image::image::{Image, ImageFault};
+use guest_image::image_file::read_image;
+use std::alloc::Global;
+use view_file::fault::ViewFault;
+use view_file::read::read_views;
+use view_file::views::Views;
+
+/// The most bytes of a file that is read: 192 MiB.
+pub const FILE_MOST: usize = 201_326_592;
+
+/// The bytes of the file that the word at this place names.
+fn take_bytes<S: Store>(
+    alloc: Global,
+    store: &mut S,
+    words: &[String],
+    at: usize,
+    kind: Kind,
+) -> Result<Vec<u8>, Refusal>
+    ensures within { IfOk result (λ bytes. length bytes.items ≤ FILE_MOST) }
+    ensures said { (told : Told) → S.files store.old ≡ Some told → BytesSaid (held_by (map string_bytes words.now) told at) kind at result }
+    ensures counted { Counts (word_at (map string_bytes words.now) at) at (S.reads store.old) (S.reads store.new) result }
+    ensures files { S.files store.new ≡ S.files store.old }
+    ensures writes { S.writes store.new ≡ S.writes store.old }
+{
+    match store.read(alloc, word_at(words, at), FILE_MOST) {
+        Ok(bytes) => Ok(bytes),
+        Err(ReadNo::Failed) => Err(Refusal::Unread(at)),
+        Err(ReadNo::TooLong) => Err(Refusal::Fault(Fault::TooLong(kind))),
+        Err(ReadNo::NoMemory) => Err(Refusal::NoMemory),
+    }
+}
+
+/// The image that the file gives which the word at this place names.
+pub fn take_image<S: Store>(
+    alloc: Global,
+    store: &mut S,
+    words: &[String],
+    at: usize,
+) -> Result<Image, Refusal>
+    ensures lawful { IfOk result (λ image. IsImage image) }
+    ensures said { (told : Told) → S.files store.old ≡ Some told
+        → let held = held_by (map string_bytes words.now) told at in Takes (GivesImage held) (RefusesImage held) at result }
+    ensures counted { Counts (word_at (map string_bytes words.now) at) at (S.reads store.old) (S.reads store.new) result }
+    ensures files { S.files store.new ≡ S.files store.old }
+    ensures writes { S.writes store.new ≡ S.writes store.old }
+{
+    let bytes = take_bytes(alloc, store, words, at, Kind::Image)?;
+    match read_image(alloc, &bytes) {
+        Ok(image) => Ok(image),
+        Err(ImageFault::Elf(ElfFault::NoMemory)) => Err(Refusal::NoMemory),
+        Err(fault) => Err(Refusal::Fault(Fault::Image(fault))),
+    }
+}
+
+/// The views for the image that the file gives which the word at this place names.
+pub fn take_views<S: Store>(
+    alloc: Global,
+    store: &mut S,
+    words: &[String],
+    at: usize,
+    image: &Image,
+    table: &Table,
+) -> Result<Views, Refusal>
+    requires table { table.now ≡ groups_of image.now }
+    ensures lawful { IfOk result (λ views. IsViewsFor views image.now) }
+    ensures said { (told : Told) → S.files store.old ≡ Some told
+        → let held = held_by (map string_bytes words.now) told at in Takes (GivesViews held image.now) (RefusesViews held image.now) at result }
+    ensures counted { Counts (word_at (map string_bytes words.now) at) at (S.reads store.old) (S.reads store.new) result }
+    ensures files { S.files store.new ≡ S.files store.old }
+    ensures writes { S.writes store.new ≡ S.writes store.old }
+{
+    let bytes = take_bytes(alloc, store, words, at, Kind::Views)?;
+    match read_views(alloc, &bytes, image, table) {
+        Ok(views) => Ok(views),
+        Err(ViewFault::NoMemory) => Err(Refusal::NoMemory),
+        Err(fault) => Err(Refusal::Fault(Fault::Views(fault))),
+    }
+}

@@ -1,0 +1,11 @@
+-- What bytes give as views for an image is one.
+use Rattle.std.specs.Prelude.{◌≡◌, ◌≢◌, ℕ, List, Result, Err}
+use Rattle.guest_input.specs.declared.image.Image.{Image}
+use Rattle.view_file.specs.declared.views.Views.{Views}
+use Rattle.view_file.specs.declared.fault.ViewFault.{ViewFault}
+use Rattle.view_file.specs.declared.fault.ViewFault.TheVariants.{NoMemory}
+use Rattle.view_file.specs.Fits.{Reads}
+
+-- two readings of the same bytes for the same image give the same views or the same fault, where memory was there
+abbrev pub ReadsOnce : Type 0
+ReadsOnce = (bytes : List ℕ) (i : Image) (r s : Result Views ViewFault) → Reads bytes i r → Reads bytes i s → r ≢ Err NoMemory → s ≢ Err NoMemory → r ≡ s
