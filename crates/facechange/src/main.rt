@@ -1,9 +1,9 @@
 //! The monitor's program: runs a kernel under the view of an application.
 #![tactic(auto)]
 
+use command_frame::line::no_words;
 use facechange_cli::command::face_change_still;
 use fc_outside::host::{HostSink, HostStore};
-use fc_outside::outside::Sink;
 use std::env::Env;
 use std::process::ExitCode;
 use std::{env, io};
@@ -19,8 +19,7 @@ fn words<R: Env + AllocGlobal>(rt: &R) -> io::Result<Vec<String>> {
 fn main(rt: HostRuntime) -> ExitCode {
     let mut err = HostSink::new(rt.stderr());
     let Ok(words) = words(&rt) else {
-        let _ = err.put(b"10 memory\n");
-        return ExitCode::from(10);
+        return ExitCode::from(no_words(&mut err));
     };
     let mut store = HostStore::new(&rt);
     let mut out = HostSink::new(rt.stdout());

@@ -1,7 +1,6 @@
+pub mod Setups
 pub mod Words
-pub mod Files
 pub mod Alone
-pub mod Answers
-pub mod Command
-pub mod Exact
-pub mod Inner
+pub mod Requests
+pub mod Top
+pub mod Served

@@ -96,7 +96,7 @@ pub fn run_alone(
     ensures { IfOk result (λ ran. (schedule : List ℕ)
         × IsRunOf (record { image = image.now; setup = setup.now; views = views.now }) schedule ran.end ran.console.items ran.log.items) }
 {
-    let mut core = Core::open(alloc, image, setup, views, table)?;
+    let mut core = Core::open(alloc, image, table, setup, views)?;
     go_on(&mut core);
     let view = views.choose(setup.start.as_ref());
     let log = lines(alloc, image, table, app_name(views, view), core.log(view))?;

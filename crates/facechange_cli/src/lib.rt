@@ -1,27 +1,35 @@
 //! The commands of the monitor: from words and files to a console, a log, and a status.
 //!
 //! - [`words`]: what the words of a command ask for.
-//! - [`inputs`]: the image and the views that the files give.
+//! - [`setup`]: the setup of `try`.
 //! - [`alone`]: the run of one vCPU under the view of its app, to its end.
-//! - [`answer`]: what a command comes to, its status, and its line on standard error.
+//! - [`trial`]: what `try` makes.
 //! - [`command`]: the top call.
 //! - [`laws`]: that each cause has its answer.
 //!
-//! [`command::face_change_still`] is the program: over any store and any streams it answers what `specs/Command.antt`
-//! says. Where the answer is 0 or 9 the guest's console is that of the full kernel, run by the words' setup, and the log
+//! [`command::face_change_still`] is the program: over any store and any streams it answers what `specs/Top.antt` says.
+//! What each command promises stands in `specs/Requests.antt`, and what an answer to it means in command_frame. Where
+//! the answer to `try` is 0 or 9 the guest's console is that of the full kernel, run by the words' setup, and the log
 //! has a line for each piece of missing code that the run reached, in order, and no other. Each refusal has its cause.
-//! Below stand the core, the readers of files and the outside; above, `main`, which has the real files and streams.
+//!
+//! A further command is a variant of [`words::Command`] with the test of its words, its form, the places of its files and
+//! its promise; a function as in [`trial`], which takes the files and makes the product; an arm for it in [`command`]; and
+//! a line in `proofs/Served.antt`, that its files are sure. Writing, line and status are the frame's.
+//!
+//! Below stand the frame of commands and the core; above, `main`, which has the real files and streams.
 #![tactic(auto)]
 
 pub mod alone;
-pub mod answer;
 pub mod command;
-pub mod inputs;
+#[cfg(test)]
+mod kernels;
 pub mod laws;
 #[cfg(test)]
 mod programs;
+pub mod setup;
 #[cfg(test)]
 mod tables;
 #[cfg(test)]
 mod tests;
+pub mod trial;
 pub mod words;

@@ -1,10 +1,11 @@
 //! Kernels worked out by hand, and every refusal.
 
 use crate::command::face_change_still;
+use crate::kernels::{damages, hello_log, hello_parts, hello_views, put_parts};
 use crate::programs::programs;
 use crate::tables::{
-    damages, failings, hello_log, hello_parts, hello_views, kernels, other_words, put_elf,
-    put_kernel, refused_files, split_kernel, split_tables,
+    GivenViews, Wanted, failings, kernels, other_words, put_kernel, put_log, refused_files,
+    split_kernel,
 };
 use elf_read::parts::ElfFault;
 use fc_outside::memory::MemStore;
@@ -12,28 +13,78 @@ use fc_outside::memory_sink::MemSink;
 use guest_image::image::ImageFault;
 use guest_image::image_file::read_image;
 use std::alloc::Global;
+use std::process::Abort;
 use std::test::Fail;
 
-fn image_of(alloc: Global, text: &str, functions: &str) -> Result<String, Fail> {
+const TRY: [&str; 6] = ["try", "image", "views", "sh", "100", "log"];
+
+/// Adds the digits of these instructions.
+fn add(digits: &mut String, text: &[&str]) -> Result<(), Fail> {
+    for piece in text {
+        digits.push_str(piece)?;
+    }
+    Ok(())
+}
+
+/// A plain image at 0x80000000 with this text and these further members.
+fn image_of(alloc: Global, text: &str, more: &str) -> Result<String, Fail> {
     Ok(format!(in alloc;
-        "{{\"base\":2147483648,\"entry\":2147483648,\"text\":\"{text}\",\"functions\":[{functions}]}}"
+        "{{\"base\":2147483648,\"entry\":2147483648,\"text\":\"{text}\"{more}}}"
     )?)
 }
 
-fn views_of(alloc: Global, digest: &str, apps: &str) -> Result<String, Fail> {
+/// A plain image with this text and these functions.
+fn kernel_of(alloc: Global, text: &[&str], functions: &str) -> Result<String, Fail> {
+    let mut digits = String::new(alloc);
+    add(&mut digits, text)?;
+    let more = format!(in alloc; ",\"functions\":[{functions}]")?;
+    image_of(alloc, digits.as_str(), more.as_str())
+}
+
+/// The digits of the image's digest; none where there is no image.
+fn digest_of(alloc: Global, image: &[u8]) -> Result<String, Fail> {
+    match read_image(alloc, image) {
+        Ok(image) => Ok(hex::encode(alloc, image.digest)?),
+        Err(_) => Ok(String::new(alloc)),
+    }
+}
+
+/// Views for the image.
+fn views_of(alloc: Global, image: &[u8], shared: &str, apps: &str) -> Result<String, Fail> {
+    let digest = digest_of(alloc, image)?;
     Ok(format!(in alloc;
-        "{{\"version\":1,\"text\":\"{digest}\",\"shared\":[],\"apps\":[{apps}]}}"
+        "{{\"version\":1,\"text\":\"{digest}\",\"shared\":[{shared}],\"apps\":[{apps}]}}"
     )?)
 }
 
-/// The words, each a string of its own.
-fn words_of(alloc: Global, words: &[&str]) -> Result<Vec<String>, Fail> {
+/// The bytes of these digits, each piece with so many zeros behind it.
+fn bytes_of(alloc: Global, parts: &[(&str, usize)]) -> Result<Vec<u8>, Fail> {
     let mut all = Vec::new(alloc);
-    for word in words {
-        all.push(String::from_str(alloc, word)?)?;
+    for (digits, zeros) in parts {
+        let bytes = hex::decode(alloc, digits.as_bytes())?;
+        all.extend_from_slice(bytes.as_slice())?;
+        for _ in 0..*zeros {
+            all.push(0)?;
+        }
     }
     Ok(all)
 }
+
+/// Which calls of the outside fail, by their numbers; 0: none.
+#[derive(Clone, Copy)]
+struct Fails {
+    read: u64,
+    write: u64,
+    out: u64,
+    err: u64,
+}
+
+const NONE_FAILS: Fails = Fails {
+    read: 0,
+    write: 0,
+    out: 0,
+    err: 0,
+};
 
 /// What a call came to.
 #[derive(Drop)]
@@ -44,38 +95,39 @@ struct Came {
     err: MemSink,
 }
 
-/// A store with these two files and room for a log, whose reads and writes of these numbers fail.
-fn store_of(
+impl Came {
+    /// Compares with what was worked out.
+    fn is(&self, rt: &impl Abort, label: &str, wanted: &Wanted) {
+        assert_eq!(rt; self.status, wanted.status, "{label}: status");
+        assert!(rt; self.err.bytes() == wanted.line, "{label}: line");
+        assert!(rt; self.out.bytes() == wanted.console, "{label}: console");
+        assert!(rt; self.store.bytes("log") == wanted.log, "{label}: log");
+    }
+}
+
+/// The call over a store with these files and room for a log.
+fn call(
     alloc: Global,
+    words: &[&str],
     image: Option<&[u8]>,
-    views: Option<&[u8]>,
-    reads: Vec<u64>,
-    writes: Vec<u64>,
-) -> Result<MemStore, Fail> {
+    views: &[u8],
+    fails: Fails,
+) -> Result<Came, Fail> {
+    let mut all = Vec::new(alloc);
+    for word in words {
+        all.push(String::from_str(alloc, word)?)?;
+    }
+    let reads = vec![in alloc; fails.read]?;
+    let writes = vec![in alloc; fails.write]?;
     let mut store = MemStore::new(reads, writes);
     if let Some(bytes) = image {
         store.room(alloc, "image", Some(bytes), bytes.len())?;
     }
-    if let Some(bytes) = views {
-        store.room(alloc, "views", Some(bytes), bytes.len())?;
-    }
+    store.room(alloc, "views", Some(views), views.len())?;
     store.room(alloc, "log", None, 4096)?;
-    Ok(store)
-}
-
-/// The call over this store, with sinks of which the puts that are listed fail.
-fn call(
-    alloc: Global,
-    words: &[&str],
-    store: MemStore,
-    out_fails: Vec<(u64, usize)>,
-    err_fails: Vec<(u64, usize)>,
-) -> Result<Came, Fail> {
-    let words = words_of(alloc, words)?;
-    let mut store = store;
-    let mut out = MemSink::new(alloc, 4096, out_fails)?;
-    let mut err = MemSink::new(alloc, 4096, err_fails)?;
-    let status = face_change_still(alloc, &words, &mut store, &mut out, &mut err);
+    let mut out = MemSink::new(alloc, 4096, vec![in alloc; (fails.out, 0)]?)?;
+    let mut err = MemSink::new(alloc, 4096, vec![in alloc; (fails.err, 3)]?)?;
+    let status = face_change_still(alloc, &all, &mut store, &mut out, &mut err);
     Ok(Came {
         status,
         store,
@@ -84,31 +136,14 @@ fn call(
     })
 }
 
-const TRY: [&str; 6] = ["try", "image", "views", "sh", "100", "log"];
-
-/// The call over a store with these files, where nothing fails.
-fn call_with(alloc: Global, words: &[&str], image: &[u8], views: &[u8]) -> Result<Came, Fail> {
-    let store = store_of(
-        alloc,
-        Some(image),
-        Some(views),
-        Vec::new(alloc),
-        Vec::new(alloc),
-    )?;
-    call(alloc, words, store, Vec::new(alloc), Vec::new(alloc))
-}
-
 #[test]
 fn kernels_run_as_worked_out(rt: HostRuntime) -> Result<(), Fail> {
     let alloc = rt.alloc();
     for row in kernels() {
-        let image = image_of(alloc, row.text, row.functions)?;
-        let views = views_of(alloc, row.digest, row.apps)?;
-        let came = call_with(alloc, &TRY, image.as_bytes(), views.as_bytes())?;
-        assert!(rt; came.status == row.status);
-        assert!(rt; came.out.bytes() == row.console);
-        assert!(rt; came.err.bytes() == row.line);
-        assert!(rt; came.store.bytes("log") == Some(row.log));
+        let image = kernel_of(alloc, row.text, row.functions)?;
+        let views = views_of(alloc, image.as_bytes(), "", row.apps)?;
+        let came = call(alloc, &TRY, Some(image.as_bytes()), views.as_bytes(), NONE_FAILS)?;
+        came.is(&rt, row.label, &row.wanted);
     }
     Ok(())
 }
@@ -116,14 +151,21 @@ fn kernels_run_as_worked_out(rt: HostRuntime) -> Result<(), Fail> {
 #[test]
 fn traps_and_control_registers_are_the_manuals(rt: HostRuntime) -> Result<(), Fail> {
     let alloc = rt.alloc();
-    for (text, digest, more, console) in programs() {
-        let image = format!(in alloc;
-            "{{\"base\":2147483648,\"entry\":2147483648,\"text\":\"{text}\"{more}}}"
-        )?;
-        let views = views_of(alloc, *digest, "")?;
-        let came = call_with(alloc, &TRY, image.as_bytes(), views.as_bytes())?;
-        assert!(rt; came.status == 0);
-        assert!(rt; came.out.bytes() == *console);
+    for row in programs() {
+        let mut digits = String::new(alloc);
+        for piece in row.text {
+            add(&mut digits, *piece)?;
+        }
+        let image = image_of(alloc, digits.as_str(), row.more)?;
+        let views = views_of(alloc, image.as_bytes(), "", "")?;
+        let came = call(alloc, &TRY, Some(image.as_bytes()), views.as_bytes(), NONE_FAILS)?;
+        let wanted = Wanted {
+            status: 0,
+            console: row.console,
+            log: Some(b""),
+            line: b"",
+        };
+        came.is(&rt, row.label, &wanted);
     }
     Ok(())
 }
@@ -132,43 +174,68 @@ fn traps_and_control_registers_are_the_manuals(rt: HostRuntime) -> Result<(), Fa
 #[test]
 fn a_split_instruction_stops_the_run(rt: HostRuntime) -> Result<(), Fail> {
     let alloc = rt.alloc();
-    let (text, digest) = split_kernel();
-    let mut image = format!(in alloc;
-        "{{\"base\":2147483648,\"entry\":2147483648,\"text\":\"{text}"
-    )?;
+    let (first, last, more) = split_kernel();
+    let mut digits = String::new(alloc);
+    add(&mut digits, first)?;
     for _ in 0..4070 {
-        image.push_str("00")?;
+        digits.push_str("00")?;
     }
-    image.push_str(split_tables())?;
-    let views = views_of(alloc, digest, "")?;
-    let came = call_with(alloc, &TRY, image.as_bytes(), views.as_bytes())?;
-    assert!(rt; came.status == 9);
-    assert!(rt; came.err.bytes() == b"9 stop TextSplit\n".as_slice());
-    assert!(rt; came.out.bytes().is_empty());
+    add(&mut digits, last)?;
+    let image = image_of(alloc, digits.as_str(), more)?;
+    let views = views_of(alloc, image.as_bytes(), "", "")?;
+    let came = call(alloc, &TRY, Some(image.as_bytes()), views.as_bytes(), NONE_FAILS)?;
+    let wanted = Wanted {
+        status: 9,
+        console: b"",
+        log: Some(b""),
+        line: b"9 stop TextSplit\n",
+    };
+    came.is(&rt, "split", &wanted);
     Ok(())
 }
 
 #[test]
 fn words_of_no_listed_form_are_turned_away(rt: HostRuntime) -> Result<(), Fail> {
     let alloc = rt.alloc();
-    for words in other_words() {
-        let store = store_of(alloc, None, None, Vec::new(alloc), Vec::new(alloc))?;
-        let came = call(alloc, *words, store, Vec::new(alloc), Vec::new(alloc))?;
-        assert!(rt; came.status == 2);
-        assert!(rt; came.err.bytes() == b"2 words\n".as_slice());
+    for (label, words) in other_words() {
+        let came = call(alloc, *words, None, b"", NONE_FAILS)?;
+        let wanted = Wanted {
+            status: 2,
+            console: b"",
+            log: None,
+            line: b"2 words\n",
+        };
+        came.is(&rt, label, &wanted);
     }
     Ok(())
+}
+
+/// The image and the views of the first kernel.
+fn put_files(alloc: Global) -> Result<(String, String), Fail> {
+    let (text, functions, apps) = put_kernel();
+    let image = kernel_of(alloc, text, functions)?;
+    let views = views_of(alloc, image.as_bytes(), "", apps)?;
+    Ok((image, views))
 }
 
 #[test]
 fn refused_files_have_their_lines(rt: HostRuntime) -> Result<(), Fail> {
     let alloc = rt.alloc();
-    for (image, views, status, line) in refused_files() {
-        let came = call_with(alloc, &TRY, *image, *views)?;
-        assert!(rt; came.status == *status);
-        assert!(rt; came.err.bytes() == *line);
-        assert!(rt; came.out.bytes().is_empty());
-        assert!(rt; came.store.bytes("log").is_none());
+    let (put, _) = put_files(alloc)?;
+    for row in refused_files() {
+        let image = row.image.unwrap_or(put.as_bytes());
+        let views = match row.views {
+            GivenViews::Text(text) => String::from_str(alloc, text)?,
+            GivenViews::Listed(shared, apps) => views_of(alloc, image, shared, apps)?,
+        };
+        let came = call(alloc, &TRY, Some(image), views.as_bytes(), NONE_FAILS)?;
+        let wanted = Wanted {
+            status: row.status,
+            console: b"",
+            log: None,
+            line: row.line,
+        };
+        came.is(&rt, row.label, &wanted);
     }
     Ok(())
 }
@@ -176,45 +243,23 @@ fn refused_files_have_their_lines(rt: HostRuntime) -> Result<(), Fail> {
 #[test]
 fn failing_files_and_streams_have_their_lines(rt: HostRuntime) -> Result<(), Fail> {
     let alloc = rt.alloc();
+    let (image, views) = put_files(alloc)?;
     for row in failings() {
-        let (image, views) = put_kernel();
-        let image = if row.image { Some(image) } else { None };
-        let store = store_of(
-            alloc,
-            image,
-            Some(views),
-            vec![in alloc; row.read]?,
-            vec![in alloc; row.write]?,
-        )?;
-        let out = if row.out { 1 } else { 0 };
-        let err = if row.err { 1 } else { 0 };
-        let came = call(
-            alloc,
-            &TRY,
-            store,
-            vec![in alloc; (out, 0)]?,
-            vec![in alloc; (err, 3)]?,
-        )?;
-        assert!(rt; came.status == row.status);
-        assert!(rt; came.err.bytes() == row.line);
-        assert!(rt; came.out.bytes().is_empty());
-        assert!(rt; came.store.bytes("log").is_some() == row.log);
+        let image = if row.image {
+            Some(image.as_bytes())
+        } else {
+            None
+        };
+        let fails = Fails {
+            read: row.read,
+            write: row.write,
+            out: row.out,
+            err: row.err,
+        };
+        let came = call(alloc, &TRY, image, views.as_bytes(), fails)?;
+        came.is(&rt, row.label, &row.wanted);
     }
     Ok(())
-}
-
-/// The file examples/hello/hello.elf.
-fn hello(alloc: Global) -> Result<Vec<u8>, Fail> {
-    let mut image = Vec::new(alloc);
-    for (digits, zeros) in hello_parts() {
-        if let Ok(bytes) = hex::decode(alloc, digits.as_bytes()) {
-            image.extend_from_slice(bytes.as_slice())?;
-        }
-        for _ in 0..*zeros {
-            image.push(0)?;
-        }
-    }
-    Ok(image)
 }
 
 /// The kernel of examples/hello, which a cross compiler made: functions, groups and chains of a real ELF file. Console
@@ -222,31 +267,39 @@ fn hello(alloc: Global) -> Result<Vec<u8>, Fail> {
 #[test]
 fn a_compiled_kernel_runs_to_its_end(rt: HostRuntime) -> Result<(), Fail> {
     let alloc = rt.alloc();
-    let image = hello(alloc)?;
+    let image = bytes_of(alloc, hello_parts())?;
     let words = ["try", "image", "views", "hello", "2000", "log"];
-    let came = call_with(alloc, &words, image.as_slice(), hello_views().as_bytes())?;
-    assert!(rt; came.status == 0);
-    assert!(rt; came.err.bytes().is_empty());
-    assert!(rt; came.out.bytes() == b"Hello.\nTwo ticks later: bye.\n".as_slice());
-    assert!(rt; came.store.bytes("log") == Some(hello_log()));
+    let came = call(alloc, &words, Some(&image), hello_views().as_bytes(), NONE_FAILS)?;
+    let wanted = Wanted {
+        status: 0,
+        console: b"Hello.\nTwo ticks later: bye.\n",
+        log: Some(hello_log()),
+        line: b"",
+    };
+    came.is(&rt, "hello", &wanted);
     Ok(())
 }
 
-/// One byte or two of the compiled kernel are others: each clause of each fault, and two faults at once.
+/// A byte or two of the compiled kernel are others: each clause of each fault, and two faults at once.
 #[test]
 fn damaged_kernels_have_their_first_fault(rt: HostRuntime) -> Result<(), Fail> {
     let alloc = rt.alloc();
-    let image = hello(alloc)?;
-    for (patches, line) in damages() {
+    let image = bytes_of(alloc, hello_parts())?;
+    for row in damages() {
         let mut damaged = Vec::from_slice(alloc, image.as_slice())?;
-        for (at, byte) in patches {
+        for (at, byte) in row.patches {
             if *at < damaged.len() {
                 damaged[*at] = *byte;
             }
         }
-        let came = call_with(alloc, &TRY, damaged.as_slice(), b"")?;
-        assert!(rt; came.status == 3);
-        assert!(rt; came.err.bytes() == *line);
+        let came = call(alloc, &TRY, Some(&damaged), b"", NONE_FAILS)?;
+        let wanted = Wanted {
+            status: 3,
+            console: b"",
+            log: None,
+            line: row.line,
+        };
+        came.is(&rt, row.label, &wanted);
     }
     Ok(())
 }
@@ -255,17 +308,15 @@ fn damaged_kernels_have_their_first_fault(rt: HostRuntime) -> Result<(), Fail> {
 #[test]
 fn every_front_part_of_a_kernel_is_refused(rt: HostRuntime) -> Result<(), Fail> {
     let alloc = rt.alloc();
-    let image = hello(alloc)?;
+    let image = bytes_of(alloc, hello_parts())?;
     for size in 0..image.len() {
         let wanted = if size < 4 {
             ImageFault::NotJson
         } else {
             ImageFault::Elf(ElfFault::Truncated)
         };
-        match read_image(alloc, &image[..size]) {
-            Ok(_) => assert!(rt; false, "taken"),
-            Err(fault) => assert!(rt; fault == wanted),
-        }
+        let fault = read_image(alloc, &image[..size]).err();
+        assert!(rt; fault == Some(wanted), "the first {size} bytes");
     }
     Ok(())
 }
@@ -274,15 +325,15 @@ fn every_front_part_of_a_kernel_is_refused(rt: HostRuntime) -> Result<(), Fail> 
 #[test]
 fn both_forms_of_a_kernel_give_one_image(rt: HostRuntime) -> Result<(), Fail> {
     let alloc = rt.alloc();
-    let (digits, log) = put_elf();
-    let (_, views) = put_kernel();
-    let mut image = Vec::new(alloc);
-    if let Ok(bytes) = hex::decode(alloc, digits.as_bytes()) {
-        image.extend_from_slice(bytes.as_slice())?;
-    }
-    let came = call_with(alloc, &TRY, image.as_slice(), views)?;
-    assert!(rt; came.status == 0);
-    assert!(rt; came.out.bytes() == b"A".as_slice());
-    assert!(rt; came.store.bytes("log") == Some(log));
+    let image = bytes_of(alloc, put_parts())?;
+    let (_, views) = put_files(alloc)?;
+    let came = call(alloc, &TRY, Some(&image), views.as_bytes(), NONE_FAILS)?;
+    let wanted = Wanted {
+        status: 0,
+        console: b"A",
+        log: Some(put_log()),
+        line: b"",
+    };
+    came.is(&rt, "the ELF form", &wanted);
     Ok(())
 }

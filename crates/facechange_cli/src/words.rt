@@ -2,33 +2,22 @@
 
 ghost use Rattle.std.specs.Prelude.{◌≡◌, ◌≤◌, ℕ, decimal, string_bytes, map, IfSome, IfNone};
 ghost use Rattle.fc_numbers.specs.Names.{is_app_name};
+ghost use Rattle.guest_input.specs.declared.setup.Setup.{Setup};
 ghost use Rattle.guest_input.specs.declared.limits.TheConstants.{STEPS_MOST};
-ghost use Rattle.facechange_cli.specs.Words.{Wanted, IsTry, IsNoForm, is_plain, setup_for};
+ghost use Rattle.facechange_cli.specs.Setups.{setup_for};
+ghost use Rattle.facechange_cli.specs.Words.{IsTry, IsForm, IsNoForm, is_plain};
 
+use crate::setup::setup_for;
 use fc_numbers::name::Name;
-use fc_numbers::places::RAM_MOST;
 use guest_input::limits::STEPS_MOST;
 use guest_input::setup::Setup;
-use sqlite_items::Items;
 use std::alloc::Global;
-use std::marker::Model;
 
-/// What `try IMAGE VIEWS APP STEPS LOG` asks for: to run the image by the setup under these views, and to write the
-/// log. `image`, `views` and `log` are names of files.
+/// A listed form of words, and what it asks for besides files.
 #[derive(Drop)]
-pub struct Request<'a> {
-    pub image: &'a str,
-    pub views: &'a str,
-    pub log: &'a str,
-    pub setup: Setup,
-}
-
-impl<'a> Model for Request<'a> {
-    ghost use Rattle.facechange_cli.specs.Words.{Wanted};
-
-    ghost Value = { Wanted };
-
-    ghost view = { λ r. record { image = r.image.now; views = r.views.now; log = r.log.now; setup = r.setup } };
+pub enum Command {
+    /// `try IMAGE VIEWS APP STEPS LOG`: to run the image under the views by this setup, and to write the log.
+    Try(Setup),
 }
 
 /// Whether the word begins with a digit that is not 0.
@@ -55,27 +44,12 @@ fn steps_of(word: &str) -> Option<u32>
     }
 }
 
-/// One vCPU of this name with so many steps, the largest RAM, no hook and no events.
-fn setup_for(alloc: Global, app: Name, steps: u32) -> Setup
-    ensures { result ≡ setup_for app steps }
+/// The setup that `try` asks for; None exactly where the words are not of its form.
+fn try_of(alloc: Global, words: &[String]) -> Option<Setup>
+    ensures some { IfSome result (λ setup. IsTry (map string_bytes words.now) setup) }
+    ensures none { IfNone result ((setup : Setup) → IsTry (map string_bytes words.now) setup → ⊥) }
 {
-    Setup {
-        vcpus: 1,
-        ram: RAM_MOST,
-        steps,
-        hook: None,
-        name_at: 0,
-        start: Some(app),
-        events: Items::new(alloc),
-    }
-}
-
-/// What the words ask for, or None exactly where they are no listed form.
-pub fn request_of<'a>(alloc: Global, words: &'a [String]) -> Option<Request<'a>>
-    ensures some { IfSome result (λ request. IsTry (map string_bytes words.now) request) }
-    ensures none { IfNone result (IsNoForm (map string_bytes words.now)) }
-{
-    let [verb, image, views, app, steps, log] = words else {
+    let [verb, _, _, app, steps, _] = words else {
         return None;
     };
     if verb.as_str() != "try" {
@@ -83,10 +57,15 @@ pub fn request_of<'a>(alloc: Global, words: &'a [String]) -> Option<Request<'a>>
     }
     let app = Name::of(app.as_bytes())?;
     let steps = steps_of(steps.as_str())?;
-    Some(Request {
-        image: image.as_str(),
-        views: views.as_str(),
-        log: log.as_str(),
-        setup: setup_for(alloc, app, steps),
-    })
+    Some(setup_for(alloc, app, steps))
+}
+
+/// The form that the words are of, or None exactly where they are of no listed one.
+#[tactic(auto, using(crate::proofs::Forms::no_form))]
+pub fn command_of(alloc: Global, words: &[String]) -> Option<Command>
+    ensures some { IfSome result (λ command. IsForm (map string_bytes words.now) command) }
+    ensures none { IfNone result (IsNoForm (map string_bytes words.now)) }
+{
+    let setup = try_of(alloc, words)?;
+    Some(Command::Try(setup))
 }

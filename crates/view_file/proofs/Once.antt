@@ -1,30 +1,45 @@
 -- What bytes give as views for an image is one: the views, or the fault.
 use Rattle.std.proofs.Common.{◌≡◌, ◌≢◌, ℕ, zero, suc, ◌+◌, ◌<◌, true, false, Bool, arith, refl, ◌∙◌, sym, ap, subst, Option, Ok, Err, List, [], ◌∷◌, length, map, ◌⊎◌, inl, inr}
-use Rattle.std.specs.Prelude.{slice_index_or, ◌==◌, ◌||◌, Result}
+use Rattle.std.specs.Prelude.{slice_index_or, ◌&&◌, ◌||◌, Result}
 use Rattle.std.specs.List.{AllZip, AllByRecursion, Contains, list_all}
 use Rattle.std.specs.List.Sorted.{IsPermutation, IsStrictlySortedBy}
 use Rattle.std.specs.Ordering.{ordering_reverse, nat_cmp}
 use Rattle.std.specs.declared.cmp.Ordering.{Ordering}
-use Rattle.std.specs.declared.cmp.Ordering.TheVariants.{Less}
+use Rattle.std.specs.declared.cmp.Ordering.TheVariants.{Less, Equal, Greater}
 use Rattle.std.specs.Cmp.{IsTotalOrder}
 use Rattle.std.specs.Cmp.Lexicographic.{slice_cmp, nat_list_cmp_total}
 use Rattle.std.proofs.lemmas.Bool.Decides.{nat_tests}
 use Rattle.std.proofs.lemmas.Cmp.{nat_cmp_total}
 use Rattle.std.proofs.lemmas.List.Sorted.{Contains-permutation, IsPermutation-sym}
 use Rattle.guest_input.specs.declared.image.Image.{Image}
-use Rattle.guest_input.specs.Accepted.{offsets_of}
+use Rattle.guest_input.specs.declared.image.Start.{Start}
+use Rattle.guest_input.specs.Starts.{is_same, start_cmp}
+use Rattle.guest_input.proofs.Starts.{equal_one, starts_ordered}
+use Rattle.function_table.specs.Groups.{groups_of, is_function}
 use Rattle.view_file.specs.declared.views.App.{App}
 use Rattle.view_file.specs.declared.views.Views.{Views}
 use Rattle.view_file.specs.declared.fault.ViewFault.{ViewFault}
 use Rattle.view_file.specs.declared.fault.ViewFault.TheVariants.{NotJson, Shape, OtherText, UnknownFunction, TooManyApps, BadName, NoMemory}
 use Rattle.view_file.specs.declared.written.Written.{Written}
 use Rattle.view_file.specs.declared.written.WrittenApp.{WrittenApp}
-use Rattle.view_file.specs.Base.{is_function, all_listed}
+use Rattle.view_file.specs.Base.{all_listed}
 use Rattle.view_file.specs.Fits.{IsInOrder, IsAppOf, AreAppsOf, IsViewsOf, Reads, all_written}
 use Rattle.view_file.specs.Least.{contains, IsLeastUnknown}
 use Rattle.view_file.specs.Once.{ReadsOnce}
 use Rattle.view_file.specs.Written.{writing_of}
 use Rattle.view_file.proofs.Leasts.{listed_same}
+
+or_true : (b : Bool) → (b || true) ≡ true
+or_true true = refl
+or_true false = refl
+
+and_left : (a b : Bool) → (a && b) ≡ true → a ≡ true
+and_left true b h = refl
+and_left false b h = h
+
+and_right : (a b : Bool) → (a && b) ≡ true → b ≡ true
+and_right true b h = h
+and_right false b h = absurd (cc h)
 
 abbrev In : {X : Type 0} → X → List X → Type 0
 In x [] = ⊥
@@ -69,29 +84,35 @@ module _ (X : Type 0) (K : Type 0) (key : X → K) (R : K → K → Ordering) (t
   up-of [] s = tt
   up-of (x ∷ xs) s = (alls (λ k. R (key x) k ≡ Less) xs s.0, up-of xs s.1)
 
-map-itself : (xs : List ℕ) → map (λ n. n) xs ≡ xs
+map-itself : (xs : List Start) → map (λ n. n) xs ≡ xs
 map-itself [] = refl
 map-itself (x ∷ xs) = ap (λ l. x ∷ l) (map-itself xs)
 
-in-from : (n : ℕ) (xs : List ℕ) → contains xs n ≡ true → In n xs
+same_start : (a b : Start) → is_same a b ≡ true → a ≡ b
+same_start a b h = let tied : start_cmp a b ≡ Equal = grind (arith, nat_tests) in equal_one a b tied
+
+start_itself : (a : Start) → is_same a a ≡ true
+start_itself a = grind (arith, nat_tests)
+
+in-from : (n : Start) (xs : List Start) → contains xs n ≡ true → In n xs
 in-from n [] has = absurd (cc has)
 in-from n (x ∷ xs) has =
-    elim (n == x) as (λ b. (n == x) ≡ b → In n (x ∷ xs)) [
-      | true ↦ λ is. inl (let same : n ≡ x = grind (arith, nat_tests, is) in same)
+    elim (is_same n x) as (λ b. is_same n x ≡ b → In n (x ∷ xs)) [
+      | true ↦ λ is. inl (same_start n x is)
       | false ↦ λ not. inr (in-from n xs (ap (λ b. b || contains xs n) (sym not) ∙ has))
     ] refl
 
-in-to : (n : ℕ) (xs : List ℕ) → In n xs → contains xs n ≡ true
+in-to : (n : Start) (xs : List Start) → In n xs → contains xs n ≡ true
 in-to n [] i = absurd i
 in-to n (x ∷ xs) i = elim i [
-    inl e ↦ let same : (n == x) ≡ true = grind (arith, nat_tests, e) in ap (λ b. b || contains xs n) same
-    | inr i ↦ let rest : contains xs n ≡ true = in-to n xs i in grind (arith, nat_tests, rest)
+    inl e ↦ let same : is_same n x ≡ true = subst (λ y. is_same n y ≡ true) e (start_itself n) in ap (λ b. b || contains xs n) same
+    | inr i ↦ let rest : contains xs n ≡ true = in-to n xs i in rw rest (or_true (is_same n x))
   ]
 
-one-order : (given xs ys : List ℕ) → IsInOrder given xs → IsInOrder given ys → xs ≡ ys
-one-order given xs ys a b = same-members ℕ ℕ (λ n. n) nat_cmp nat_cmp_total xs ys
-    (up-of ℕ ℕ (λ n. n) nat_cmp nat_cmp_total xs (subst (IsStrictlySortedBy nat_cmp) (sym (map-itself xs)) a.ascending))
-    (up-of ℕ ℕ (λ n. n) nat_cmp nat_cmp_total ys (subst (IsStrictlySortedBy nat_cmp) (sym (map-itself ys)) b.ascending))
+one-order : (given xs ys : List Start) → IsInOrder given xs → IsInOrder given ys → xs ≡ ys
+one-order given xs ys a b = same-members Start Start (λ n. n) start_cmp starts_ordered xs ys
+    (up-of Start Start (λ n. n) start_cmp starts_ordered xs (subst (IsStrictlySortedBy start_cmp) (sym (map-itself xs)) a.ascending))
+    (up-of Start Start (λ n. n) start_cmp starts_ordered ys (subst (IsStrictlySortedBy start_cmp) (sym (map-itself ys)) b.ascending))
     (λ n i. in-from n ys (b.same n ∙ sym (a.same n) ∙ in-to n xs i))
     (λ n i. in-from n xs (a.same n ∙ sym (b.same n) ∙ in-to n ys i))
 
@@ -149,12 +170,13 @@ one-views w u v p q =
 ok-or-err : {T E : Type 0} (r : Result T E) (t : T) (e : E) → r ≡ Ok t → r ≡ Err e → ⊥
 ok-or-err r t e a b = absurd (cc (sym a ∙ b))
 
-passes : (p : ℕ → Bool) (n : ℕ) (xs : List ℕ) → list_all p xs ≡ true → contains xs n ≡ true → p n ≡ true
+passes : (p : Start → Bool) (n : Start) (xs : List Start) → list_all p xs ≡ true → contains xs n ≡ true → p n ≡ true
 passes p n [] all has = absurd (cc has)
 passes p n (x ∷ xs) all has =
-    let rest : list_all p xs ≡ true → contains xs n ≡ true → p n ≡ true = passes p n xs in
-    let head : n ≡ x → p x ≡ p n = λ e. ap p (sym e) in
-    grind (arith, nat_tests, rest, head, all, has)
+    elim (is_same n x) as (λ b. is_same n x ≡ b → (b || contains xs n) ≡ true → p n ≡ true) [
+      | true ↦ λ is some. ap p (same_start n x is) ∙ and_left (p x) (list_all p xs) all
+      | false ↦ λ is some. passes p n xs (and_right (p x) (list_all p xs) all) some
+    ] refl has
 
 reads-apart : (bytes : List ℕ) (i : Image) (v : Views) (why : ViewFault) → why ≢ NoMemory → Reads bytes i (Ok v) → Reads bytes i (Err why) → ⊥
 reads-apart bytes i v NotJson other a b = ok-or-err (writing_of bytes) a.0 NotJson a.1 b
@@ -168,13 +190,13 @@ reads-apart bytes i v OtherText other a b =
 reads-apart bytes i v (UnknownFunction n) other a b =
     let same : b.0 ≡ a.0 = cc (sym b.1 ∙ a.1) in
     let has : contains (all_listed v) n ≡ true = listed_same a.0 v n a.2 ∙ ap (λ (w : Written). contains (all_written w) n) (sym same) ∙ b.3.one in
-    let known : is_function (offsets_of i.functions) n ≡ true = passes (is_function (offsets_of i.functions)) n (all_listed v) a.3.listed has in
+    let known : is_function (groups_of i) n ≡ true = passes (is_function (groups_of i)) n (all_listed v) a.3.listed has in
     absurd (cc (sym known ∙ b.3.unknown))
 
 -- what is written is refused for this reason
 abbrev IsLate : Written → Image → ViewFault → Type 0
 IsLate w i OtherText = w.text ≡ i.digest → ⊥
-IsLate w i (UnknownFunction n) = (w.text ≡ i.digest) × IsLeastUnknown (offsets_of i.functions) (all_written w) n
+IsLate w i (UnknownFunction n) = (w.text ≡ i.digest) × IsLeastUnknown (is_function (groups_of i)) (all_written w) n
 IsLate w i other = ⊥
 
 when-refused : (bytes : List ℕ) (i : Image) (f : ViewFault) → f ≢ NoMemory → Reads bytes i (Err f) → (writing_of bytes ≡ Err f) ⊎ ((w : Written) × (writing_of bytes ≡ Ok w) × IsLate w i f)
@@ -186,17 +208,22 @@ when-refused bytes i NoMemory other a = absurd (other refl)
 when-refused bytes i OtherText other a = inr (a.0, a.1, a.2)
 when-refused bytes i (UnknownFunction n) other a = inr (a.0, a.1, (a.2, a.3))
 
-not-less : (fs xs : List ℕ) (m n : ℕ) → IsLeastUnknown fs xs m → IsLeastUnknown fs xs n → m < n → ⊥
-not-less fs xs m n a b less = absurd (cc (b.least m less a.one, a.unknown))
+not-less : (fs : Start → Bool) (xs : List Start) (m n : Start) → IsLeastUnknown fs xs m → IsLeastUnknown fs xs n → start_cmp m n ≡ Less → ⊥
+not-less fs xs m n a b less = absurd (cc (sym (b.least m less a.one) ∙ a.unknown))
 
-one-least : (fs xs : List ℕ) (m n : ℕ) → IsLeastUnknown fs xs m → IsLeastUnknown fs xs n → m ≡ n
-one-least fs xs m n a b = let up : m < n → ⊥ = not-less fs xs m n a b in let down : n < m → ⊥ = not-less fs xs n m b a in omega (arith, up, down)
+one-least : (fs : Start → Bool) (xs : List Start) (m n : Start) → IsLeastUnknown fs xs m → IsLeastUnknown fs xs n → m ≡ n
+one-least fs xs m n a b =
+    elim (start_cmp m n) as (λ o. start_cmp m n ≡ o → m ≡ n) [
+      | Less ↦ λ e. absurd (not-less fs xs m n a b e)
+      | Equal ↦ λ e. equal_one m n e
+      | Greater ↦ λ e. absurd (not-less fs xs n m b a (starts_ordered.antisymm n m ∙ ap ordering_reverse e))
+    ] refl
 
 one-late : (w : Written) (i : Image) (f g : ViewFault) → IsLate w i f → IsLate w i g → f ≡ g
 one-late w i OtherText OtherText a b = refl
 one-late w i OtherText (UnknownFunction n) a b = absurd (a b.0)
 one-late w i (UnknownFunction m) OtherText a b = absurd (b a.0)
-one-late w i (UnknownFunction m) (UnknownFunction n) a b = ap UnknownFunction (one-least (offsets_of i.functions) (all_written w) m n a.1 b.1)
+one-late w i (UnknownFunction m) (UnknownFunction n) a b = ap UnknownFunction (one-least (is_function (groups_of i)) (all_written w) m n a.1 b.1)
 one-late w i NotJson g a b = absurd a
 one-late w i Shape g a b = absurd a
 one-late w i BadName g a b = absurd a

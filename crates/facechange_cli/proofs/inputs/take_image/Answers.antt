@@ -1,8 +1,0 @@
-use Rattle.std.proofs.Common.{subst, sym}
-use Rattle.facechange_cli.specs.Files.{ImageCounts}
-use Rattle.facechange_cli.proofs.inputs.take_image.Goals as goal
-
-pub returns-in-Ok-clause-counted : goal.returns-in-Ok-clause-counted
-returns-in-Ok-clause-counted g c =
-    subst (λ x. ImageCounts c.args.name.now (g.S.Store.reads c.args.store.now) x c.image_in.result) (sym c.in-Ok.ensures.counted)
-    (c.image_in.ensures.read c.args.name.now (g.S.Store.reads c.args.store.now))

@@ -1,0 +1,72 @@
+//! What `try` makes: the console of the full kernel's run, and the log of what its view missed.
+
+ghost use Rattle.std.specs.Prelude.{◌≡◌, [], ◌∷◌, ℕ, List, Option, Some, IfOk, map, string_bytes};
+ghost use Rattle.command_frame.specs.Promise.{Told};
+ghost use Rattle.command_frame.specs.Command.{MakeSaid, MakeCounts, HasOutputs};
+ghost use Rattle.facechange_cli.specs.Setups.{IsAlone};
+ghost use Rattle.facechange_cli.specs.Requests.{ended_of, file_of, try_request};
+
+use crate::alone::run_alone;
+use command_frame::answer::Ended;
+use command_frame::inputs::{take_image, take_views};
+use command_frame::product::{Product, Refusal, Written};
+use fc_numbers::machine::End;
+use fc_numbers::memory::NoMemory;
+use fc_outside::outside::Store;
+use function_table::table::Table;
+use guest_input::setup::Setup;
+use sqlite_items::Items;
+use std::alloc::Global;
+
+/// The places of the image, of the views and of the log in the words.
+const IMAGE: usize = 1;
+const VIEWS: usize = 2;
+const LOG: usize = 5;
+
+/// How a command ends whose run ended so.
+fn ended_of(end: End) -> Ended
+    ensures { result ≡ ended_of end }
+{
+    match end {
+        End::Spent | End::Shutdown => Ended::Finished,
+        End::Stopped(stop) => Ended::Stopped(stop),
+    }
+}
+
+/// The one output file, that the word at this place names.
+fn one_file(alloc: Global, word: usize, bytes: Vec<u8>) -> Result<Items<Written>, NoMemory>
+    ensures { IfOk result (λ files. files ≡ file_of word bytes.items ∷ []) }
+{
+    let mut files = Items::new(alloc);
+    files.push(Written {
+        word,
+        bytes: Items::from_vec(bytes),
+    })?;
+    Ok(files)
+}
+
+/// Runs the image by the setup, under the views. The log goes to its file, and the console to standard output.
+pub(crate) fn make_trial<S: Store>(
+    alloc: Global,
+    words: &[String],
+    setup: &Setup,
+    store: &mut S,
+) -> Result<Product, Refusal>
+    requires { IsAlone setup.now }
+    ensures said { (told : Told) → S.files store.old ≡ Some told → MakeSaid (try_request (map string_bytes words.now) setup.now) told result }
+    ensures counted { MakeCounts (try_request (map string_bytes words.now) setup.now) (S.reads store.old) (S.reads store.new) result }
+    ensures outputs { HasOutputs (try_request (map string_bytes words.now) setup.now) result }
+    ensures files { S.files store.new ≡ S.files store.old }
+    ensures writes { S.writes store.new ≡ S.writes store.old }
+{
+    let image = take_image(alloc, store, words, IMAGE)?;
+    let table = Table::of(alloc, &image)?;
+    let views = take_views(alloc, store, words, VIEWS, &image, &table)?;
+    let ran = run_alone(alloc, &image, &table, &views, setup)?;
+    let files = one_file(alloc, LOG, ran.log)?;
+    Ok(Product {
+        files,
+        out: Items::from_vec(ran.console),
+        ended: ended_of(ran.end),
+    })
+}
