@@ -110,7 +110,7 @@ went-idle (Goes r) e = absurd (cc)
 never-over : (w : World) (i : ℕ) (l : Lane) (phase : Phase) → may w.board.steps w.board.state i ≡ true → went_in w i l phase ≡ Over → ⊥
 unfolding went_in
 never-over w i l Running m e =
-    ready-busy w.board.state.ram.text.start (windows_of w i l) (ready_at w.board.state i)
+    ready-busy w.board.state.ram.text (windows_of w i l) (ready_at w.board.state i)
     (sym (verdict-may w.board.steps w.board.state i (windows_of w i l) m) ∙ went-idle (verdict_in w i (windows_of w i l)) e)
 never-over w i l (Wants n) m e = absurd (cc)
 never-over w i l (Trapped t) m e = absurd (cc)

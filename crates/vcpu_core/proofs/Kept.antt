@@ -4,6 +4,9 @@ use Rattle.std.specs.Prelude.{◌==◌, ◌||◌, slice_index, slice_index_or, s
 use Rattle.std.proofs.lemmas.Bool.Decides.{nat_tests}
 use Rattle.fc_numbers.specs.declared.places.Span.{Span}
 use Rattle.fc_numbers.specs.declared.places.TheConstants.{RAM_START}
+use Rattle.fc_numbers.specs.Spans.{end_in, in_text, place_in, text_size}
+use Rattle.fc_numbers.proofs.TextLaws.{place_inside}
+use Rattle.guest_input.specs.Text.{bytes_of}
 use Rattle.function_table.specs.Groups.{Groups, group_at, group_in, groups_count, half_of, range_of, IsGroups}
 use Rattle.function_table.proofs.GroupLemmas.{group-below, joined}
 use Rattle.chain_log.specs.declared.entry.LogEntry.{LogEntry}
@@ -35,7 +38,7 @@ use Rattle.vcpu_core.specs.Lanes.{blank_windows, in_phase, emptied, after_fill, 
 use Rattle.vcpu_core.specs.World.{World, IsReady, IsLaneReady, IsPlaced, HasView, gone, went_in, go_of, went_of, go_all, erased, kept_if, lane_of, view_of, paged_in, logs_of, windows_of, verdict_in, with_lane, after_event}
 use Rattle.vcpu_core.specs.Sound.{IsSoundView}
 use Rattle.vcpu_core.proofs.Verdicts.{verdict-may, ready-needs, ready-zeroes, ready-goes, ready-busy, IsNeed, IsZero, IsPlain, IsRead}
-use Rattle.vcpu_core.proofs.Ready.{named-below, set-lane, set-paged, IsNextBoard, board-lane-ready, with_lane-ready, patched-ready, next-in, windows-view}
+use Rattle.vcpu_core.proofs.Ready.{named-below, set-lane, set-paged, IsNextBoard, board-lane-ready, with_lane-ready, patched-ready, next-in, half-in, windows-view}
 use Rattle.vcpu_core.proofs.Truth.{HasText, AreTruthful, IsClearedOf, HeldIs, IsOriginal, fill-held, truthful-logged, present-new, read-original, got-same, group-half}
 
 -- a memory with the same layout, and the same bytes of text
@@ -86,7 +89,7 @@ pub record IsFull (c : Config) (b : Seat) : Type 0 where
   pub clock : b.state.clock ≡ length b.schedule
   pub lawful : IsLawful c b.schedule
   pub laid : Rattle.guest_ram.specs.Ram.IsLaid b.state.ram
-  pub text : HasText b.state.ram (groups_in c).base c.image.text
+  pub text : HasText b.state.ram (groups_in c).text (bytes_of c.image.ranges)
 
 pub record IsKept (c : Config) (w : World) : Type 0 where
   pub ready : IsReady w
@@ -114,17 +117,15 @@ view-more c schedule i v p k = record {
   once = k.once;
 }
 
-has-text-kept : (old new : Ram) (base : ℕ) (text : List ℕ) → IsRamKept old new → HasText old base text → HasText new base text
-has-text-kept old new base text kept k = record {
-  start = ap (λ (s : Span). s.start) kept.text ∙ k.start;
-  end = ap (λ (s : Span). s.end) kept.text ∙ k.end;
-  low = k.low;
-  high = k.high;
-  even = k.even;
-  whole = k.whole;
+has-text-kept : (old new : Ram) (ranges : List Span) (text : List ℕ) → IsRamKept old new → HasText old ranges text → HasText new ranges text
+has-text-kept old new ranges text kept k = record {
+  same = kept.text ∙ k.same;
+  below = k.below;
+  long = k.long;
   bytes = λ n h.
-      let inside : is_text old (base + n) ≡ true = grind (arith, nat_tests, k.start, k.end, h) in
-      ap (λ x. slice_index new.bytes x) (omega (arith, k.low)) ∙ kept.bytes (base + n) inside ∙ ap (λ x. slice_index old.bytes x) (omega (arith, k.low)) ∙ k.bytes n h;
+      let within : n < text_size ranges = omega (arith, k.long, h) in
+      let inside : is_text old (place_in ranges n) ≡ true = subst (λ t. in_text t (place_in ranges n) ≡ true) (sym k.same) (place_inside ranges RAM_START n k.below.ranges within) in
+      kept.bytes (place_in ranges n) inside ∙ k.bytes n h;
 }
 
 or-false : (a b : Bool) → (a || b) ≡ false → (a ≡ false) × (b ≡ false)
@@ -156,15 +157,14 @@ module _ (stays : RamStays) where
         clock = ap (λ (s : State). s.clock) (step-is b.steps b.state i) ∙ stepped-clock b.steps b.state i (ready_at b.state i) ∙ simp length-append (ap (λ n. n + 1) k.clock);
         lawful = lawful-more c b.schedule i k.lawful (subst (λ s. may c.setup.steps s i ≡ true) k.state (subst (λ n. may n b.state i ≡ true) k.steps m));
         laid = kept.1;
-        text = has-text-kept b.state.ram (step_of b.steps b.state i).ram (groups_in c).base c.image.text kept.0 k.text;
+        text = has-text-kept b.state.ram (step_of b.steps b.state i).ram (groups_in c).text (bytes_of c.image.ranges) kept.0 k.text;
       }
 
   step-next : (steps : ℕ) (b : Seat) (i : ℕ) → Rattle.guest_ram.specs.Ram.IsLaid b.state.ram → IsNextBoard b (moved b i (step_of steps b.state i))
   step-next steps b i laid =
       let kept : IsRamKept b.state.ram (step_of steps b.state i).ram × Rattle.guest_ram.specs.Ram.IsLaid (step_of steps b.state i).ram = stays steps b.state i laid in
       record {
-        start = ap (λ (s : Span). s.start) kept.0.text;
-        end = ap (λ (s : Span). s.end) kept.0.text;
+        text = kept.0.text;
         names = ap (λ (s : State). s.names) (step-is steps b.state i) ∙ stepped-names steps b.state i (ready_at b.state i);
         vcpus = ap (λ (s : State). length s.vcpus) (step-is steps b.state i) ∙ stepped-vcpus steps b.state i (ready_at b.state i);
       }
@@ -323,46 +323,43 @@ module _ (stays : RamStays) where
     }
 
     -- a step that goes by truthful windows is the full kernel's, and its group is present
-    goes-step : (r : Ready) → by_ready w.board.state.ram.text.start (windows_of w i (lane_of w i)) (ready_at w.board.state i) ≡ Goes r
+    goes-step : (r : Ready) → by_ready w.board.state.ram.text (windows_of w i (lane_of w i)) (ready_at w.board.state i) ≡ Goes r
         → (stepped_by w.board.steps w.board.state i r ≡ step_of w.board.steps w.board.state i)
         × ((p : ℕ) → next_of w.board.state i ≡ Some p → is_present (paged_in w.paged_views (view_of w i)).base (paged_in w.paged_views (view_of w i)).log (group_at w.groups p) ≡ true)
-    goes-step r e = by_cases (ready-goes w.board.state.ram.text.start (windows_of w i (lane_of w i)) (ready_at w.board.state i) r e) where
-      by_read : IsRead w.board.state.ram.text.start (windows_of w i (lane_of w i)) (ready_at w.board.state i) r
+    goes-step r e = by_cases (ready-goes w.board.state.ram.text (windows_of w i (lane_of w i)) (ready_at w.board.state i) r e) where
+      by_read : IsRead w.board.state.ram.text (windows_of w i (lane_of w i)) (ready_at w.board.state i) r
           → (stepped_by w.board.steps w.board.state i r ≡ step_of w.board.steps w.board.state i)
           × ((p : ℕ) → next_of w.board.state i ≡ Some p → is_present (paged_in w.paged_views (view_of w i)).base (paged_in w.paged_views (view_of w i)).log (group_at w.groups p) ≡ true)
       by_read x0 =
           let paged : PagedView = paged_in w.paged_views (view_of w i) in
           let sound : IsSoundView c w.board.schedule (view_of w i) (paged_in w.paged_views (view_of w i)) = k.paged_views (view_of w i) view-inside in
           let groups : (paged_in w.paged_views (view_of w i)).groups ≡ w.groups = paged-groups (view_of w i) view-inside in
-          let start : w.board.state.ram.text.start ≡ (paged_in w.paged_views (view_of w i)).groups.base = k.ready.start ∙ ap (λ (t : Groups). t.base) (sym groups) in
-          let x : IsRead (paged_in w.paged_views (view_of w i)).groups.base (windows_of w i (lane_of w i)) (ready_at w.board.state i) r =
-          subst (λ n. IsRead n (windows_of w i (lane_of w i)) (ready_at w.board.state i) r) start x0 in
+          let text : w.board.state.ram.text ≡ (paged_in w.paged_views (view_of w i)).groups.text = k.ready.text ∙ ap (λ (t : Groups). t.text) (sym groups) in
+          let x : IsRead (paged_in w.paged_views (view_of w i)).groups.text (windows_of w i (lane_of w i)) (ready_at w.board.state i) r =
+          subst (λ n. IsRead n (windows_of w i (lane_of w i)) (ready_at w.board.state i) r) text x0 in
           let next : next_of w.board.state i ≡ Some x.place = next-is w.board.state i ∙ ap (λ z. place_of z) x.begin ∙ x.next in
-          let inside : (w.groups.base ≤ x.place) × (x.place < w.groups.base + w.groups.size) = next-in w i k.ready x.place next in
-          let low : (paged_in w.paged_views (view_of w i)).groups.base ≤ x.place = rw groups inside.0 in
-          let high : x.place < (paged_in w.paged_views (view_of w i)).groups.base + (paged_in w.paged_views (view_of w i)).groups.size = rw groups inside.1 in
-          let o : IsOriginal (paged_in w.paged_views (view_of w i)) x.pair = read-original (paged_in w.paged_views (view_of w i)) (windows_of w i (lane_of w i)) (ready_at w.board.state i) r x seated-truthful low high in
+          let inside : Rattle.function_table.specs.Groups.in_text (paged_in w.paged_views (view_of w i)).groups x.place ≡ true = rw groups (next-in w i k.ready x.place next) in
+          let o : IsOriginal (paged_in w.paged_views (view_of w i)) x.pair = read-original (paged_in w.paged_views (view_of w i)) (windows_of w i (lane_of w i)) (ready_at w.board.state i) r x seated-truthful inside in
           let good : IsGroups (paged_in w.paged_views (view_of w i)).groups = rw groups k.ready.groups in
-          let base : (groups_in c).base ≡ (paged_in w.paged_views (view_of w i)).groups.base = ap (λ (t : Groups). t.base) (sym sound.groups) in
-          let has : HasText w.board.state.ram (paged_in w.paged_views (view_of w i)).groups.base (paged_in w.paged_views (view_of w i)).text =
+          let base : (groups_in c).text ≡ (paged_in w.paged_views (view_of w i)).groups.text = ap (λ (t : Groups). t.text) (sym sound.groups) in
+          let has : HasText w.board.state.ram (paged_in w.paged_views (view_of w i)).groups.text (paged_in w.paged_views (view_of w i)).text =
           subst (λ n. HasText w.board.state.ram n (paged_in w.paged_views (view_of w i)).text) base (rw sound.text k.board.text) in
-          let join : (n : ℕ) → half_of (paged_in w.paged_views (view_of w i)).text n % 4 ≡ 3
+          let join : (n : ℕ) → 2 * (n + 1) < end_in (paged_in w.paged_views (view_of w i)).groups.text (2 * n) → half_of (paged_in w.paged_views (view_of w i)).text n % 4 ≡ 3
           → group_in (paged_in w.paged_views (view_of w i)).groups.starts (2 * (n + 1)) ≡ group_in (paged_in w.paged_views (view_of w i)).groups.starts (2 * n) =
           λ n. rw (sound.text, sound.groups) (joined c.image n ok.image) in
-          let size : (paged_in w.paged_views (view_of w i)).groups.size ≡ length (paged_in w.paged_views (view_of w i)).text = rw (sound.text, sound.groups) refl in
           let halves : HalvesAre w.board.state.ram x.got = subst (λ z. ReadyIs w.board.state.ram z) x.begin (ready-is w.board.state i) in
           let same : with_halves x.got (first_of x.pair) (second_of x.pair) ≡ x.got =
-          got-same (paged_in w.paged_views (view_of w i)) w.board.state.ram good has size join x.place x.pair x.at o x.got halves x.next in
+          got-same (paged_in w.paged_views (view_of w i)) w.board.state.ram good has join x.place x.pair x.at o x.got halves x.next in
           let again : r ≡ ready_at w.board.state i = x.reads ∙ ap (λ z. Fetches z) same ∙ sym x.begin in (
             ap (λ z. stepped_by w.board.steps w.board.state i z) again ∙ sym (step-is w.board.steps w.board.state i),
             λ p n.
                 let here : x.place ≡ p = cc in
                 let group : group_at w.groups x.place ≡ group_in (paged_in w.paged_views (view_of w i)).groups.starts (2 * x.pair.at) =
-                group-half w.groups x.place k.ready.groups ∙ ap (λ (t : Groups). group_in t.starts (2 * half_no t.base x.place)) (sym groups) ∙ ap (λ n. group_in (paged_in w.paged_views (view_of w i)).groups.starts (2 * n)) (sym x.at) in
+                group-half w.groups x.place k.ready.groups ∙ ap (λ (t : Groups). group_in t.starts (2 * half_no t.text x.place)) (sym groups) ∙ ap (λ n. group_in (paged_in w.paged_views (view_of w i)).groups.starts (2 * n)) (sym x.at) in
                 subst (λ z. is_present (paged_in w.paged_views (view_of w i)).base (paged_in w.paged_views (view_of w i)).log (group_at w.groups z) ≡ true) here (rw group o.present),
           )
 
-      by_cases : IsPlain (ready_at w.board.state i) r ⊎ IsRead w.board.state.ram.text.start (windows_of w i (lane_of w i)) (ready_at w.board.state i) r
+      by_cases : IsPlain (ready_at w.board.state i) r ⊎ IsRead w.board.state.ram.text (windows_of w i (lane_of w i)) (ready_at w.board.state i) r
           → (stepped_by w.board.steps w.board.state i r ≡ step_of w.board.steps w.board.state i)
           × ((p : ℕ) → next_of w.board.state i ≡ Some p → is_present (paged_in w.paged_views (view_of w i)).base (paged_in w.paged_views (view_of w i)).log (group_at w.groups p) ≡ true)
       by_cases (inl x) = (
@@ -372,26 +369,26 @@ module _ (stays : RamStays) where
       by_cases (inr x) = by_read x
 
     -- an event of a lane that runs, by its verdict
-    turned-kept : (v : Verdict) → by_ready w.board.state.ram.text.start (windows_of w i (lane_of w i)) (ready_at w.board.state i) ≡ v
+    turned-kept : (v : Verdict) → by_ready w.board.state.ram.text (windows_of w i (lane_of w i)) (ready_at w.board.state i) ≡ v
         → IsKept c (after_event w i (lane_of w i) (windows_of w i (lane_of w i)) v)
     unfolding after_verdict
-    turned-kept Idle e = absurd (ready-busy w.board.state.ram.text.start (windows_of w i (lane_of w i)) (ready_at w.board.state i) e)
+    turned-kept Idle e = absurd (ready-busy w.board.state.ram.text (windows_of w i (lane_of w i)) (ready_at w.board.state i) e)
     turned-kept (Needs n) e =
-        let need : IsNeed w.board.state.ram.text.start n (ready_at w.board.state i) = ready-needs w.board.state.ram.text.start (windows_of w i (lane_of w i)) (ready_at w.board.state i) n e in
-        let inside : (w.groups.base ≤ need.place) × (need.place < w.groups.base + w.groups.size) = next-in w i k.ready need.place (next-is w.board.state i ∙ need.next) in
-        let low : 2 * n < w.groups.size = omega (arith, need.number, inside.0, inside.1, k.ready.start) in
+        let need : IsNeed w.board.state.ram.text n (ready_at w.board.state i) = ready-needs w.board.state.ram.text (windows_of w i (lane_of w i)) (ready_at w.board.state i) n e in
+        let inside : Rattle.function_table.specs.Groups.in_text w.groups need.place ≡ true = next-in w i k.ready need.place (next-is w.board.state i ∙ need.next) in
+        let low : 2 * n < text_size w.groups.text = half-in w k.ready n need.place need.number inside in
         lane-kept (in_phase (lane_of w i) (windows_of w i (lane_of w i)) (Wants n))
         (lane-at (windows_of w i (lane_of w i)) (Wants n) (windows-view w i (lane_of w i)) low (windows-view w i (lane_of w i)))
         (truthful-at (windows_of w i (lane_of w i)) (Wants n) (windows-view w i (lane_of w i)) seated-truthful tt)
     turned-kept (Zeroes p) e =
-        let zero : (place_of (ready_at w.board.state i) ≡ Some p) × IsZero w.board.state.ram.text.start (windows_of w i (lane_of w i)) p =
-        ready-zeroes w.board.state.ram.text.start (windows_of w i (lane_of w i)) (ready_at w.board.state i) p e in
+        let zero : (place_of (ready_at w.board.state i) ≡ Some p) × IsZero w.board.state.ram.text (windows_of w i (lane_of w i)) p =
+        ready-zeroes w.board.state.ram.text (windows_of w i (lane_of w i)) (ready_at w.board.state i) p e in
         let next : next_of w.board.state i ≡ Some p = next-is w.board.state i ∙ zero.0 in
-        let inside : (w.groups.base ≤ p) × (p < w.groups.base + w.groups.size) = next-in w i k.ready p next in
+        let inside : Rattle.function_table.specs.Groups.in_text w.groups p ≡ true = next-in w i k.ready p next in
         let v : (windows_of w i (lane_of w i)).view ≡ view_of w i = windows-view w i (lane_of w i) in
         let t : Rattle.chain_log.specs.declared.entry.Trapped.Trapped = Rattle.guest_board.specs.Seen.trapped_at w.board.state i (windows_of w i (lane_of w i)).view p in
         lane-kept (in_phase (lane_of w i) (windows_of w i (lane_of w i)) (Trapped (Rattle.guest_board.specs.Seen.trapped_at w.board.state i (windows_of w i (lane_of w i)).view p)))
-        (lane-at (windows_of w i (lane_of w i)) (Trapped (Rattle.guest_board.specs.Seen.trapped_at w.board.state i (windows_of w i (lane_of w i)).view p)) v (refl, inside.0, inside.1) v)
+        (lane-at (windows_of w i (lane_of w i)) (Trapped (Rattle.guest_board.specs.Seen.trapped_at w.board.state i (windows_of w i (lane_of w i)).view p)) v (refl, inside) v)
         (truthful-at (windows_of w i (lane_of w i)) (Trapped (Rattle.guest_board.specs.Seen.trapped_at w.board.state i (windows_of w i (lane_of w i)).view p)) v seated-truthful
         (refl, subst (λ u. IsTrap c w.board.schedule i w.board.state.clock p u (chain_in w.board.state i)) (sym v) (trap-now p next)))
     turned-kept (Goes r) e =
@@ -411,7 +408,7 @@ module _ (stays : RamStays) where
     unfolding gone
     gone-kept Running e =
         subst (λ v. IsKept c (after_event w i (lane_of w i) (windows_of w i (lane_of w i)) v)) (sym (verdict-may w.board.steps w.board.state i (windows_of w i (lane_of w i)) m))
-        (turned-kept (by_ready w.board.state.ram.text.start (windows_of w i (lane_of w i)) (ready_at w.board.state i)) refl)
+        (turned-kept (by_ready w.board.state.ram.text (windows_of w i (lane_of w i)) (ready_at w.board.state i)) refl)
     gone-kept (Wants n) e =
         let u : ℕ = (lane_of w i).windows.view in
         let inside : (lane_of w i).windows.view < length w.paged_views = lane-ready.view in
@@ -428,7 +425,7 @@ module _ (stays : RamStays) where
         })
     gone-kept (Trapped t) e =
         let known : (t.vcpu ≡ i) × IsTrap c w.board.schedule t.vcpu t.at t.pc t.view t.chain.items = subst (λ x. PhaseIs c w.board.schedule i x) e (k.lanes i within).phase in
-        let placed : (t.view ≡ (lane_of w i).windows.view) × (w.groups.base ≤ t.pc) × (t.pc < w.groups.base + w.groups.size) = subst (λ x. IsPlaced w.groups (lane_of w i) x) e lane-ready.placed in
+        let placed : (t.view ≡ (lane_of w i).windows.view) × (Rattle.function_table.specs.Groups.in_text w.groups t.pc ≡ true) = subst (λ x. IsPlaced w.groups (lane_of w i) x) e lane-ready.placed in
         let has : (lane_of w i).windows.view ≡ view_of w i = subst (λ x. HasView (view_of w i) (lane_of w i) x) e lane-ready.has_view in
         lane-kept (after_look w.groups t (lane_of w i))
         (record { number = lane-ready.number; view = lane-ready.view; placed = (placed.0, group-below w.groups t.pc, refl); has_view = has })

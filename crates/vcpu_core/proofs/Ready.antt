@@ -1,8 +1,9 @@
 -- An event keeps the parts together.
-use Rattle.std.proofs.Common.{◌≡◌, ℕ, zero, suc, ◌+◌, ◌<◌, ◌≤◌, true, false, Bool, List, [], ◌∷◌, length, refl, sym, ap, subst, ◌∙◌, arith, Option, Some, None, length-set}
+use Rattle.std.proofs.Common.{◌≡◌, ℕ, zero, suc, ◌+◌, ◌*◌, ◌<◌, ◌≤◌, true, false, Bool, List, [], ◌∷◌, length, refl, sym, ap, subst, ◌∙◌, arith, Option, Some, None, length-set}
 use Rattle.std.specs.Prelude.{◌==◌, slice_index_or, slice_set, if◌then◌else◌}
 use Rattle.std.proofs.lemmas.Bool.Decides.{nat_tests}
 use Rattle.std.proofs.lemmas.List.Quantifiers.{position-Some}
+use Rattle.function_table.specs.Groups.{in_text}
 use Rattle.function_table.proofs.GroupLemmas.{group-below}
 use Rattle.chain_log.specs.declared.entry.LogEntry.{LogEntry}
 use Rattle.guest_ram.specs.Ram.{is_text}
@@ -12,7 +13,7 @@ use Rattle.guest_board.specs.declared.seen.Windows.{Windows}
 use Rattle.guest_board.specs.declared.seen.Verdict.{Verdict}
 use Rattle.guest_board.specs.declared.seen.Verdict.TheVariants.{Idle, Needs, Zeroes, Goes}
 use Rattle.guest_board.specs.Board.{Seat, may, name_of, next_of, ready_at, stepped_by, moved}
-use Rattle.guest_board.specs.Seen.{after_verdict, by_ready, trapped_at}
+use Rattle.guest_board.specs.Seen.{after_verdict, by_ready, half_no, trapped_at}
 use Rattle.guest_board.specs.Step.{place_of}
 use Rattle.guest_board.proofs.Steps.{next-text, next-is, stepped-vcpus, stepped-names}
 use Rattle.vcpu_core.specs.declared.lane.Lane.{Lane}
@@ -21,7 +22,10 @@ use Rattle.vcpu_core.specs.declared.lane.Phase.TheVariants.{Running, Wants, Trap
 use Rattle.vcpu_core.specs.Lanes.{seated, blank_windows, in_phase, emptied, after_fill, after_look, after_mend}
 use Rattle.vcpu_core.specs.World.{World, IsReady, IsLaneReady, IsPagedReady, IsPlaced, HasView, gone, lane_of, view_of, paged_in, blank_paged, blank_lane, windows_of, with_lane, after_event}
 use Rattle.vcpu_core.proofs.Verdicts.{verdict-may, ready-needs, ready-zeroes, ready-busy, IsNeed, IsZero}
-use Rattle.fc_numbers.specs.declared.places.Span.{Span}
+use Rattle.fc_numbers.specs.declared.places.TheConstants.{RAM_START}
+use Rattle.fc_numbers.specs.Spans.{offset_in, text_size}
+use Rattle.fc_numbers.specs.Spans as spans
+use Rattle.fc_numbers.proofs.TextLaws.{offset_below}
 use Rattle.guest_ram.specs.Ram.{IsLaid}
 use Rattle.rv_step.specs.Kept.{KeepsText}
 use Rattle.guest_board.proofs.Stays.{stepped_keeps}
@@ -59,20 +63,18 @@ lane-ready-in w w' k l g p n s r = record {
 
 -- the world with another board of the same text, names and vCPUs, and one lane replaced
 pub record IsNextBoard (b b' : Seat) : Type 0 where
-  pub start : b'.state.ram.text.start ≡ b.state.ram.text.start
-  pub end : b'.state.ram.text.end ≡ b.state.ram.text.end
+  pub text : b'.state.ram.text ≡ b.state.ram.text
   pub names : b'.state.names ≡ b.state.names
   pub vcpus : length b'.state.vcpus ≡ length b.state.vcpus
 
 pub same-board : (b : Seat) → IsNextBoard b b
-same-board b = record { start = refl; end = refl; names = refl; vcpus = refl }
+same-board b = record { text = refl; names = refl; vcpus = refl }
 
 pub board-lane-ready : (w : World) (i : ℕ) (l : Lane) (b' : Seat) → IsReady w → IsNextBoard w.board b' → IsLaneReady w i l
     → IsReady (record w { board = b'; lanes = slice_set w.lanes i l })
 board-lane-ready w i l b' r n new = record {
   groups = r.groups;
-  start = n.start ∙ r.start;
-  end = n.end ∙ r.end;
+  text = n.text ∙ r.text;
   apps = r.apps;
   views = r.views;
   lanes = simp length-set (r.lanes ∙ sym n.vcpus);
@@ -90,8 +92,7 @@ pub patched-ready : (w : World) (i v : ℕ) (l : Lane) (p : PagedView) → IsRea
     → IsReady (record w { paged_views = slice_set w.paged_views v p; lanes = slice_set w.lanes i l })
 patched-ready w i v l p r paged new = record {
   groups = r.groups;
-  start = r.start;
-  end = r.end;
+  text = r.text;
   apps = r.apps;
   views = simp length-set r.views;
   lanes = simp length-set r.lanes;
@@ -103,11 +104,18 @@ patched-ready w i v l p r paged new = record {
 }
 
 -- a place of text, by the groups
-pub text-in : (w : World) → IsReady w → (p : ℕ) → is_text w.board.state.ram p ≡ true → (w.groups.base ≤ p) × (p < w.groups.base + w.groups.size)
-text-in w r p e = (grind (arith, nat_tests, e, r.start), grind (arith, nat_tests, e, r.end))
+pub text-in : (w : World) → IsReady w → (p : ℕ) → is_text w.board.state.ram p ≡ true → in_text w.groups p ≡ true
+text-in w r p e = subst (λ t. spans.in_text t p ≡ true) r.text e
 
-pub next-in : (w : World) (i : ℕ) → IsReady w → (p : ℕ) → next_of w.board.state i ≡ Some p → (w.groups.base ≤ p) × (p < w.groups.base + w.groups.size)
+pub next-in : (w : World) (i : ℕ) → IsReady w → (p : ℕ) → next_of w.board.state i ≡ Some p → in_text w.groups p ≡ true
 next-in w i r p e = text-in w r p (next-text w.board.state i p e)
+
+-- the halfword of a place of text is one of text
+pub half-in : (w : World) → IsReady w → (n p : ℕ) → n ≡ half_no w.board.state.ram.text p → in_text w.groups p ≡ true → 2 * n < text_size w.groups.text
+half-in w r n p number inside =
+    let below : offset_in w.groups.text p < text_size w.groups.text = offset_below w.groups.text RAM_START p r.groups.text.ranges inside in
+    let same : n ≡ half_no w.groups.text p = subst (λ t. n ≡ half_no t p) r.text number in
+    omega (arith, below, same)
 
 seated-view : (v : ℕ) (w : Windows) → (seated v w).view ≡ v
 seated-view v w =
@@ -133,33 +141,32 @@ view-inside w i r = omega (arith, r.views, named-below w.profile (name_of w.boar
 
 -- a running lane after its turn
 turned-ready : (w : World) (i : ℕ) (l : Lane) (v : Verdict) → IsReady w → IsLaid w.board.state.ram → IsLaneReady w i l
-    → by_ready w.board.state.ram.text.start (windows_of w i l) (ready_at w.board.state i) ≡ v → IsReady (after_event w i l (windows_of w i l) v)
+    → by_ready w.board.state.ram.text (windows_of w i l) (ready_at w.board.state i) ≡ v → IsReady (after_event w i l (windows_of w i l) v)
 unfolding after_verdict
-turned-ready w i l Idle r laid lane e = absurd (ready-busy w.board.state.ram.text.start (windows_of w i l) (ready_at w.board.state i) e)
+turned-ready w i l Idle r laid lane e = absurd (ready-busy w.board.state.ram.text (windows_of w i l) (ready_at w.board.state i) e)
 turned-ready w i l (Needs n) r laid lane e =
-    let need : IsNeed w.board.state.ram.text.start n (ready_at w.board.state i) = ready-needs w.board.state.ram.text.start (windows_of w i l) (ready_at w.board.state i) n e in
-    let inside : (w.groups.base ≤ need.place) × (need.place < w.groups.base + w.groups.size) = next-in w i r need.place (next-is w.board.state i ∙ need.next) in
+    let need : IsNeed w.board.state.ram.text n (ready_at w.board.state i) = ready-needs w.board.state.ram.text (windows_of w i l) (ready_at w.board.state i) n e in
+    let inside : in_text w.groups need.place ≡ true = next-in w i r need.place (next-is w.board.state i ∙ need.next) in
     with_lane-ready w i (in_phase l (windows_of w i l) (Wants n)) r (record {
       number = lane.number;
       view = rw (windows-view w i l) (view-inside w i r);
-      placed = omega (arith, need.number, inside.0, inside.1, r.start);
+      placed = half-in w r n need.place need.number inside;
       has_view = windows-view w i l;
     })
 turned-ready w i l (Zeroes p) r laid lane e =
-    let zero : (place_of (ready_at w.board.state i) ≡ Some p) × IsZero w.board.state.ram.text.start (windows_of w i l) p =
-    ready-zeroes w.board.state.ram.text.start (windows_of w i l) (ready_at w.board.state i) p e in
-    let inside : (w.groups.base ≤ p) × (p < w.groups.base + w.groups.size) = next-in w i r p (next-is w.board.state i ∙ zero.0) in
+    let zero : (place_of (ready_at w.board.state i) ≡ Some p) × IsZero w.board.state.ram.text (windows_of w i l) p =
+    ready-zeroes w.board.state.ram.text (windows_of w i l) (ready_at w.board.state i) p e in
+    let inside : in_text w.groups p ≡ true = next-in w i r p (next-is w.board.state i ∙ zero.0) in
     with_lane-ready w i (in_phase l (windows_of w i l) (Trapped (trapped_at w.board.state i (windows_of w i l).view p))) r (record {
       number = lane.number;
       view = rw (windows-view w i l) (view-inside w i r);
-      placed = (refl, inside.0, inside.1);
+      placed = (refl, inside);
       has_view = windows-view w i l;
     })
 turned-ready w i l (Goes ready) r laid lane e =
     let k : KeepsText w.board.state.ram (stepped_by w.board.steps w.board.state i ready).ram = stepped_keeps w.board.steps w.board.state i ready laid in
     board-lane-ready w i (in_phase l (emptied (windows_of w i l)) Running) (moved w.board i (stepped_by w.board.steps w.board.state i ready)) r (record {
-      start = ap (λ (s : Span). s.start) k.text;
-      end = ap (λ (s : Span). s.end) k.text;
+      text = k.text;
       names = stepped-names w.board.steps w.board.state i ready;
       vcpus = stepped-vcpus w.board.steps w.board.state i ready;
     }) (record {
@@ -179,11 +186,11 @@ pub gone-ready : (w : World) (i : ℕ) (l : Lane) (phase : Phase) → may w.boar
 unfolding gone
 gone-ready w i l Running m r laid lane e =
     subst (λ v. IsReady (after_event w i l (windows_of w i l) v)) (sym (verdict-may w.board.steps w.board.state i (windows_of w i l) m))
-    (turned-ready w i l (by_ready w.board.state.ram.text.start (windows_of w i l) (ready_at w.board.state i)) r laid lane refl)
+    (turned-ready w i l (by_ready w.board.state.ram.text (windows_of w i l) (ready_at w.board.state i)) r laid lane refl)
 gone-ready w i l (Wants n) m r laid lane e =
     with_lane-ready w i (after_fill (paged_in w.paged_views l.windows.view) n l) r (record { number = lane.number; view = lane.view; placed = tt; has_view = tt })
 gone-ready w i l (Trapped t) m r laid lane e =
-    let placed : (t.view ≡ l.windows.view) × (w.groups.base ≤ t.pc) × (t.pc < w.groups.base + w.groups.size) = subst (λ x. IsPlaced w.groups l x) e lane.placed in
+    let placed : (t.view ≡ l.windows.view) × (in_text w.groups t.pc ≡ true) = subst (λ x. IsPlaced w.groups l x) e lane.placed in
     let has : l.windows.view ≡ view_of w i = subst (λ x. HasView (view_of w i) l x) e lane.has_view in
     with_lane-ready w i (after_look w.groups t l) r (record { number = lane.number; view = lane.view; placed = (placed.0, group-below w.groups t.pc, refl); has_view = has })
 gone-ready w i l (Looked k) m r laid lane e =

@@ -19,23 +19,15 @@ use Rattle.vcpu_core.specs.declared.lane.Phase.TheVariants.{Running, Wants, Trap
 use Rattle.vcpu_core.specs.Stages.{IsStageFor, AreStagesFor}
 use Rattle.vcpu_core.specs.World.{World, gone, windows_of, verdict_in}
 
--- a memory that is laid lawfully, with a text of few pages, has spans that a table can be built of
-pub spans_of : (memory : Ram) (text ram : Span) → IsLaid memory → memory.text.end ≤ memory.text.start + 1024 * PAGE → IsFor text ram memory → AreSpans text ram
-spans_of memory text ram laid few is =
-    let start : text.start ≡ memory.text.start = ap (λ (s : Span). s.start) is.same_text in
-    let end : text.end ≡ memory.text.end = ap (λ (s : Span). s.end) is.same_text in
-    record {
-      start = is.start;
-      some = omega (arith, is.end);
-      most = omega (arith, is.end, laid.lawful.most);
-      pages = omega (arith, is.end, laid.lawful.pages);
-      first_page = rw start laid.lawful.first_page;
-      last_page = rw end laid.lawful.last_page;
-      low = rw start laid.lawful.low;
-      order = rw (start, end) laid.lawful.order;
-      few = rw (start, end) few;
-      high = omega (arith, end, is.end, laid.lawful.high);
-    }
+-- a memory that is laid lawfully has spans that a table can be built of
+pub spans_of : (memory : Ram) (text : List Span) (ram : Span) → IsLaid memory → IsFor text ram memory → AreSpans text ram
+spans_of memory text ram laid is = record {
+  start = is.start;
+  some = omega (arith, is.end);
+  most = omega (arith, is.end, laid.lawful.most);
+  pages = omega (arith, is.end, laid.lawful.pages);
+  text = rw (is.same_text, is.end) laid.lawful.text;
+}
 
 -- what holds of each member and of one more holds of each after it is put at the end
 each-push : (P : ℕ → Table → Type 0) (xs : List Table) (x : Table) → ((k : ℕ) (d : Table) → k < length xs → P k (slice_index_or xs k d)) → P (length xs) x
@@ -54,7 +46,7 @@ one_more memory n stages t all new = record {
   each = each-push (IsStageFor memory) stages t all.each (rw all.count new);
 }
 
-pub for_kept : (text ram : Span) (old new : Ram) → KeepsText old new → IsFor text ram old → IsFor text ram new
+pub for_kept : (text : List Span) (ram : Span) (old new : Ram) → KeepsText old new → IsFor text ram old → IsFor text ram new
 for_kept text ram old new kept is = record { same_text = is.same_text ∙ sym kept.text; start = is.start; end = rw kept.size is.end }
 
 pub stages_kept : (old new : Ram) (n : ℕ) (stages : List Table) → KeepsText old new → AreStagesFor old n stages → AreStagesFor new n stages

@@ -5,7 +5,8 @@ use Rattle.std.proofs.lemmas.Grind.{common_steps}
 use Rattle.std.proofs.lemmas.Bool.Decides.{nat_tests}
 use Rattle.fc_numbers.specs.declared.pair.Pair.{Pair}
 use Rattle.fc_numbers.specs.declared.places.Span.{Span}
-use Rattle.function_table.specs.Groups.{Groups, group_at, range_of, is_between, IsRangeOf, IsGroups}
+use Rattle.fc_numbers.specs.Spans.{holds}
+use Rattle.function_table.specs.Groups.{Groups, group_at, in_text, range_of, IsRangeOf, IsGroups}
 use Rattle.function_table.proofs.GroupLemmas.{range_is, group-below}
 use Rattle.guest_board.specs.declared.seen.Windows.{Windows}
 use Rattle.guest_board.specs.declared.seen.Verdict.{Verdict}
@@ -30,17 +31,17 @@ unfilled-most : (cleared : Option Span) (next : Option ℕ) → unfilled cleared
 unfilled-most cleared None = omega arith
 unfilled-most cleared (Some p) = grind (arith, nat_tests)
 
-filled-most : (start n : ℕ) (cleared : Option Span) (next : Option ℕ) → filled start n cleared next ≤ 7
-filled-most start n cleared None = omega arith
-filled-most start n cleared (Some p) = grind (arith, nat_tests)
+filled-most : (text : List Span) (n : ℕ) (cleared : Option Span) (next : Option ℕ) → filled text n cleared next ≤ 7
+filled-most text n cleared None = omega arith
+filled-most text n cleared (Some p) = grind (arith, nat_tests)
 
-held-most : (start : ℕ) (held : Option Pair) (cleared : Option Span) (next : Option ℕ) → held_waits start held cleared next ≤ 7
-held-most start None cleared next = unfilled-most cleared next
-held-most start (Some pair) cleared next = filled-most start pair.at cleared next
+held-most : (text : List Span) (held : Option Pair) (cleared : Option Span) (next : Option ℕ) → held_waits text held cleared next ≤ 7
+held-most text None cleared next = unfilled-most cleared next
+held-most text (Some pair) cleared next = filled-most text pair.at cleared next
 
 phase-most : (t : Groups) (l : Lane) (w : Windows) (next : Option ℕ) (phase : Phase) → phase_waits t l w next phase ≤ 9
-phase-most t l w next Running = let h : held_waits t.base w.held w.cleared next ≤ 7 = held-most t.base w.held w.cleared next in omega (arith, h)
-phase-most t l w next (Wants n) = omega (arith, filled-most t.base n l.windows.cleared next)
+phase-most t l w next Running = let h : held_waits t.text w.held w.cleared next ≤ 7 = held-most t.text w.held w.cleared next in omega (arith, h)
+phase-most t l w next (Wants n) = omega (arith, filled-most t.text n l.windows.cleared next)
 phase-most t l w next (Trapped trap) = omega (arith, unfilled-most (Some (range_of t (group_at t trap.pc))) next)
 phase-most t l w next (Looked k) = omega (arith, unfilled-most (Some (range_of t k.group)) next)
 
@@ -52,16 +53,16 @@ same-number : (n : ℕ) → (n == n) ≡ true
 same-number n = grind (arith, nat_tests)
 
 -- a need: the pair of the place is not held
-pair-nearer : (start : ℕ) (cleared : Option Span) (p n : ℕ) (held : Option Pair) → n ≡ half_no start p
-    → ((pair : Pair) → held ≡ Some pair → (pair.at == half_no start p) ≡ false) → 1 + filled start n cleared (Some p) < held_waits start held cleared (Some p)
-pair-nearer start cleared p n None e h = grind (arith, nat_tests, e)
-pair-nearer start cleared p n (Some pair) e h = let not_it : (pair.at == half_no start p) ≡ false = h pair refl in grind (arith, nat_tests, e, not_it)
+pair-nearer : (text : List Span) (cleared : Option Span) (p n : ℕ) (held : Option Pair) → n ≡ half_no text p
+    → ((pair : Pair) → held ≡ Some pair → (pair.at == half_no text p) ≡ false) → 1 + filled text n cleared (Some p) < held_waits text held cleared (Some p)
+pair-nearer text cleared p n None e h = grind (arith, nat_tests, e)
+pair-nearer text cleared p n (Some pair) e h = let not_it : (pair.at == half_no text p) ≡ false = h pair refl in grind (arith, nat_tests, e, not_it)
 
 -- what a group's own place waits for once the group was mended
-covered-waits : (t : Groups) (p : ℕ) → IsGroups t → t.base ≤ p → p < t.base + t.size → unfilled (Some (range_of t (group_at t p))) (Some p) ≡ 2
-covered-waits t p good low high =
+covered-waits : (t : Groups) (p : ℕ) → IsGroups t → in_text t p ≡ true → unfilled (Some (range_of t (group_at t p))) (Some p) ≡ 2
+covered-waits t p good inside =
     let range : IsRangeOf t (group_at t p) (range_of t (group_at t p)) = range_is t (group_at t p) good (group-below t p) in
-    let here : is_between (range_of t (group_at t p)).start (range_of t (group_at t p)).end p ≡ (group_at t p == group_at t p) = range.each p low high in
+    let here : holds (range_of t (group_at t p)) p ≡ (group_at t p == group_at t p) = range.each p inside in
     rw (here ∙ same-number (group_at t p)) refl
 
 -- the windows that a running lane leaves for its next turn are those of this turn
@@ -72,26 +73,26 @@ module _ (w : World) (i : ℕ) (l : Lane) (m : may w.board.steps w.board.state i
   abbrev x : Windows
   x = windows_of w i l
 
-  turned-nearer : (v : Verdict) → by_ready w.board.state.ram.text.start (windows_of w i l) (ready_at w.board.state i) ≡ v → l.phase ≡ Running → went_by v ≡ Erased
+  turned-nearer : (v : Verdict) → by_ready w.board.state.ram.text (windows_of w i l) (ready_at w.board.state i) ≡ v → l.phase ≡ Running → went_by v ≡ Erased
       → waits_of (after_event w i l (windows_of w i l) v) i (after_turn w.board.state i l (windows_of w i l) v) < waits_of w i l
   unfolding waits_of after_verdict
   turned-nearer Idle e running erased = absurd (cc)
   turned-nearer (Goes ready) e running erased = absurd (cc)
   turned-nearer (Needs n) e running erased =
-      let need : IsNeed w.board.state.ram.text.start n (ready_at w.board.state i) = ready-needs w.board.state.ram.text.start (windows_of w i l) (ready_at w.board.state i) n e in
+      let need : IsNeed w.board.state.ram.text n (ready_at w.board.state i) = ready-needs w.board.state.ram.text (windows_of w i l) (ready_at w.board.state i) n e in
       let next : next_of w.board.state i ≡ Some need.place = next-is w.board.state i ∙ need.next in
-      let number : n ≡ half_no w.groups.base need.place = rw (← r.start) need.number in
-      rw (running, next) (pair-nearer w.groups.base (windows_of w i l).cleared need.place n (windows_of w i l).held number
-      (λ pair h. rw (← r.start) (Rattle.vcpu_core.proofs.Verdicts.ready-unheld w.board.state.ram.text.start (windows_of w i l) (ready_at w.board.state i) n need.place pair e need.next h)))
+      let number : n ≡ half_no w.groups.text need.place = rw (← r.text) need.number in
+      rw (running, next) (pair-nearer w.groups.text (windows_of w i l).cleared need.place n (windows_of w i l).held number
+      (λ pair h. rw (← r.text) (Rattle.vcpu_core.proofs.Verdicts.ready-unheld w.board.state.ram.text (windows_of w i l) (ready_at w.board.state i) n need.place pair e need.next h)))
   turned-nearer (Zeroes p) e running erased =
-      let zero : (place_of (ready_at w.board.state i) ≡ Some p) × IsZero w.board.state.ram.text.start (windows_of w i l) p =
-      ready-zeroes w.board.state.ram.text.start (windows_of w i l) (ready_at w.board.state i) p e in
+      let zero : (place_of (ready_at w.board.state i) ≡ Some p) × IsZero w.board.state.ram.text (windows_of w i l) p =
+      ready-zeroes w.board.state.ram.text (windows_of w i l) (ready_at w.board.state i) p e in
       let next : next_of w.board.state i ≡ Some p = next-is w.board.state i ∙ zero.0 in
-      let inside : (w.groups.base ≤ p) × (p < w.groups.base + w.groups.size) = next-in w i r p next in
-      let at : zero.1.pair.at ≡ half_no w.groups.base p = rw (← r.start) zero.1.at in
-      let same : (zero.1.pair.at == half_no w.groups.base p) ≡ true = rw at (same-number (half_no w.groups.base p)) in
-      let five : window_waits w.groups.base (windows_of w i l) (Some p) ≡ 5 = rw (zero.1.held, same, zero.1.uncleared) refl in
-      let two : unfilled (Some (range_of w.groups (group_at w.groups p))) (Some p) ≡ 2 = covered-waits w.groups p r.groups inside.0 inside.1 in
+      let inside : in_text w.groups p ≡ true = next-in w i r p next in
+      let at : zero.1.pair.at ≡ half_no w.groups.text p = rw (← r.text) zero.1.at in
+      let same : (zero.1.pair.at == half_no w.groups.text p) ≡ true = rw at (same-number (half_no w.groups.text p)) in
+      let five : window_waits w.groups.text (windows_of w i l) (Some p) ≡ 5 = rw (zero.1.held, same, zero.1.uncleared) refl in
+      let two : unfilled (Some (range_of w.groups (group_at w.groups p))) (Some p) ≡ 2 = covered-waits w.groups p r.groups inside in
       rw (running, next, five, two) (omega arith)
 
   within : i < length w.lanes
@@ -105,7 +106,7 @@ module _ (w : World) (i : ℕ) (l : Lane) (m : may w.board.steps w.board.state i
       → waits_of (gone w i l phase) i (lane_of (gone w i l phase) i) < waits_of w i l
   unfolding gone went_in waits_of
   gone-nearer Running e lane erased =
-      let v : verdict_in w i (windows_of w i l) ≡ by_ready w.board.state.ram.text.start (windows_of w i l) (ready_at w.board.state i) = verdict-may w.board.steps w.board.state i (windows_of w i l) m in
+      let v : verdict_in w i (windows_of w i l) ≡ by_ready w.board.state.ram.text (windows_of w i l) (ready_at w.board.state i) = verdict-may w.board.steps w.board.state i (windows_of w i l) m in
       subst (λ y. waits_of (after_event w i l (windows_of w i l) (verdict_in w i (windows_of w i l))) i y < waits_of w i l)
       (sym (replaced (after_turn w.board.state i l (windows_of w i l) (verdict_in w i (windows_of w i l)))))
       (turned-nearer (verdict_in w i (windows_of w i l)) (sym v) e erased)
@@ -220,7 +221,7 @@ busy-went (Goes r) b = λ h. absurd (cc)
 went_in-on : (w : World) (i : ℕ) (l : Lane) (phase : Phase) → may w.board.steps w.board.state i ≡ true → went_in w i l phase ≢ Over
 unfolding went_in
 went_in-on w i l Running m = busy-went (verdict_in w i (windows_of w i l))
-    (λ h. ready-busy w.board.state.ram.text.start (windows_of w i l) (ready_at w.board.state i) (sym (verdict-may w.board.steps w.board.state i (windows_of w i l) m) ∙ h))
+    (λ h. ready-busy w.board.state.ram.text (windows_of w i l) (ready_at w.board.state i) (sym (verdict-may w.board.steps w.board.state i (windows_of w i l) m) ∙ h))
 went_in-on w i l (Wants n) m = λ h. absurd (cc)
 went_in-on w i l (Trapped trap) m = λ h. absurd (cc)
 went_in-on w i l (Looked e) m = λ h. absurd (cc)

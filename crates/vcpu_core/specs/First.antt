@@ -2,6 +2,7 @@
 -- The rule: a view for each app and the full view, each with its base and an empty log; lanes that hold nothing.
 use Rattle.std.specs.Prelude.{ℕ, ◌+◌, List, [], ◌∷◌, ◌++◌, length}
 use Rattle.std.proofs.Common.{zero, suc}
+use Rattle.guest_input.specs.Text.{bytes_of}
 use Rattle.view_file.specs.Named.{view_named}
 use Rattle.view_file.specs.Base.{base_of}
 use Rattle.view_store.specs.Paged.{PagedView}
@@ -13,7 +14,7 @@ use Rattle.vcpu_core.specs.Lanes.{blank_windows}
 use Rattle.vcpu_core.specs.World.{World}
 
 abbrev pub first_paged : Config → ℕ → PagedView
-first_paged c v = record { number = v; text = c.image.text; groups = groups_in c; base = base_of c.views (groups_in c) v; log = [] }
+first_paged c v = record { number = v; text = bytes_of c.image.ranges; groups = groups_in c; base = base_of c.views (groups_in c) v; log = [] }
 
 unfoldable pub first_paged_views : Config → ℕ → List PagedView
 first_paged_views c zero = []

@@ -1,5 +1,6 @@
 -- What is true of the view machine after any list of events.
 use Rattle.std.specs.Prelude.{◌≡◌, ℕ, ◌+◌, ◌<◌, List, length}
+use Rattle.guest_input.specs.Text.{bytes_of}
 use Rattle.view_file.specs.Base.{base_of}
 use Rattle.view_store.specs.Paged.{PagedView}
 use Rattle.run_evidence.specs.Config.{Config, groups_in, full, IsLawful}
@@ -11,7 +12,7 @@ use Rattle.std.proofs.Common.{zero, suc}
 -- view v: over the image's text, with its base; its log is of it, justified, and has no group twice
 pub record IsSoundView (c : Config) (schedule : List ℕ) (v : ℕ) (p : PagedView) : Type 0 where
   pub number : p.number ≡ v
-  pub text : p.text ≡ c.image.text
+  pub text : p.text ≡ bytes_of c.image.ranges
   pub groups : p.groups ≡ groups_in c
   pub base : p.base ≡ base_of c.views (groups_in c) v
   pub of_view : AllOfView v p.log

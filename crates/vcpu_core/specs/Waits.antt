@@ -1,6 +1,6 @@
 -- How many events of a vCPU may still come before its next step: at most nine, and one less after each.
 -- This is the measure by which a run of one vCPU ends.
-use Rattle.std.specs.Prelude.{ℕ, ◌+◌, ◌-◌, ◌*◌, ◌==◌, if◌then◌else◌, Option, Some, None, slice_index}
+use Rattle.std.specs.Prelude.{ℕ, ◌+◌, ◌-◌, ◌*◌, ◌==◌, if◌then◌else◌, Option, Some, None, List, slice_index}
 use Rattle.fc_numbers.specs.declared.pair.Pair.{Pair}
 use Rattle.fc_numbers.specs.declared.places.Span.{Span}
 use Rattle.function_table.specs.Groups.{Groups, group_at, range_of}
@@ -18,21 +18,21 @@ unfilled cleared None = 0
 unfilled cleared (Some p) = if is_cleared cleared p then 2 else 7
 
 -- with the pair of halfword n
-abbrev pub filled : ℕ → ℕ → Option Span → Option ℕ → ℕ
-filled start n cleared None = 0
-filled start n cleared (Some p) =
-    if n == half_no start p then (if is_cleared cleared p then 0 else 5) else (if is_cleared cleared p then 2 else 7)
+abbrev pub filled : List Span → ℕ → Option Span → Option ℕ → ℕ
+filled text n cleared None = 0
+filled text n cleared (Some p) =
+    if n == half_no text p then (if is_cleared cleared p then 0 else 5) else (if is_cleared cleared p then 2 else 7)
 
-abbrev pub held_waits : ℕ → Option Pair → Option Span → Option ℕ → ℕ
-held_waits start None cleared next = unfilled cleared next
-held_waits start (Some pair) cleared next = filled start pair.at cleared next
+abbrev pub held_waits : List Span → Option Pair → Option Span → Option ℕ → ℕ
+held_waits text None cleared next = unfilled cleared next
+held_waits text (Some pair) cleared next = filled text pair.at cleared next
 
-abbrev pub window_waits : ℕ → Windows → Option ℕ → ℕ
-window_waits start w next = held_waits start w.held w.cleared next
+abbrev pub window_waits : List Span → Windows → Option ℕ → ℕ
+window_waits text w next = held_waits text w.held w.cleared next
 
 abbrev pub phase_waits : Groups → Lane → Windows → Option ℕ → Phase → ℕ
-phase_waits groups l w next Running = window_waits groups.base w next
-phase_waits groups l w next (Wants n) = 1 + filled groups.base n l.windows.cleared next
+phase_waits groups l w next Running = window_waits groups.text w next
+phase_waits groups l w next (Wants n) = 1 + filled groups.text n l.windows.cleared next
 phase_waits groups l w next (Trapped t) = 2 + unfilled (Some (range_of groups (group_at groups t.pc))) next
 phase_waits groups l w next (Looked k) = 1 + unfilled (Some (range_of groups k.group)) next
 

@@ -1,7 +1,8 @@
 -- The view machine: a board, the views, and a lane for each vCPU, and what one event does to them.
 -- The rule: an event of a vCPU that may step goes by its lane's phase; a step, a need, a trap, a fill, a lookup or a mend.
-use Rattle.std.specs.Prelude.{◌≡◌, ℕ, ◌+◌, ◌*◌, ◌<◌, ◌≤◌, if◌then◌else◌, List, [], ◌∷◌, length, slice_index_or, slice_set, map}
-use Rattle.function_table.specs.Groups.{Groups, groups_count, IsGroups}
+use Rattle.std.specs.Prelude.{◌≡◌, ℕ, ◌+◌, ◌*◌, ◌<◌, ◌≤◌, true, if◌then◌else◌, List, [], ◌∷◌, length, slice_index_or, slice_set, map}
+use Rattle.fc_numbers.specs.Spans.{text_size}
+use Rattle.function_table.specs.Groups.{Groups, groups_count, in_text, IsGroups}
 use Rattle.chain_log.specs.declared.entry.LogEntry.{LogEntry}
 use Rattle.view_file.specs.declared.views.Views.{Views}
 use Rattle.view_file.specs.declared.views.TheConstants.{APPS_MOST}
@@ -27,7 +28,7 @@ pub record World : Type 0 where
   pub lanes : List Lane
 
 abbrev pub blank_groups : Groups
-blank_groups = record { base = 0; size = 0; functions = []; starts = [] }
+blank_groups = record { text = []; functions = []; starts = [] }
 
 abbrev pub blank_paged : PagedView
 blank_paged = record { number = 0; text = []; groups = blank_groups; base = []; log = [] }
@@ -105,8 +106,8 @@ erased w (i ∷ is) = kept_if (went_of w i) i (erased (go_of w i) is)
 -- what a phase keeps lies in text, and is of the lane's view
 abbrev pub IsPlaced : Groups → Lane → Phase → Type 0
 IsPlaced groups l Running = Unit {0}
-IsPlaced groups l (Wants n) = 2 * n < groups.size
-IsPlaced groups l (Trapped t) = (t.view ≡ l.windows.view) × (groups.base ≤ t.pc) × (t.pc < groups.base + groups.size)
+IsPlaced groups l (Wants n) = 2 * n < text_size groups.text
+IsPlaced groups l (Trapped t) = (t.view ≡ l.windows.view) × (in_text groups t.pc ≡ true)
 IsPlaced groups l (Looked k) = (k.entry.view ≡ l.windows.view) × (k.group < groups_count groups) × (k.entry.group ≡ k.group)
 
 -- in every phase but the running one the lane's view is its vCPU's
@@ -129,8 +130,7 @@ pub record IsPagedReady (w : World) (v : ℕ) (p : PagedView) : Type 0 where
 -- board, views and lanes speak of one text, and what each lane keeps lies in it
 pub record IsReady (w : World) : Type 0 where
   pub groups : IsGroups w.groups
-  pub start : w.board.state.ram.text.start ≡ w.groups.base
-  pub end : w.board.state.ram.text.end ≡ w.groups.base + w.groups.size
+  pub text : w.board.state.ram.text ≡ w.groups.text
   pub apps : length w.profile.apps ≤ APPS_MOST
   pub views : length w.paged_views ≡ length w.profile.apps + 1
   pub lanes : length w.lanes ≡ length w.board.state.vcpus

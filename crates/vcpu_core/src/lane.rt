@@ -1,7 +1,8 @@
 //! What a vCPU holds of its view, and the rows of the view machine, one for each phase.
 
-ghost use Rattle.std.specs.Prelude.{◌≡◌, ◌≤◌, ◌<◌, ◌+◌, ◌-◌, ◌*◌, ◌^◌, length};
-ghost use Rattle.function_table.specs.Groups.{groups_count, group_at};
+ghost use Rattle.std.specs.Prelude.{◌≡◌, ◌≤◌, ◌<◌, ◌+◌, ◌-◌, ◌*◌, ◌^◌, true, length};
+ghost use Rattle.fc_numbers.specs.Spans.{text_size};
+ghost use Rattle.function_table.specs.Groups.{groups_count, group_at, in_text};
 ghost use Rattle.view_file.specs.declared.views.TheConstants.{APPS_MOST};
 ghost use Rattle.view_file.specs.Named.{view_named};
 ghost use Rattle.view_store.specs.Paged.{patched};
@@ -70,7 +71,6 @@ fn seat(view: ViewNo, windows: Windows) -> Windows
 /// One event of a lane that runs. Each access of a step asks the table of the vCPU's view where its place lies.
 pub(crate) fn turn(board: &mut Board, profile: &Views, stage: &GTable, lane: &mut Lane) -> Went
     requires number { lane.old.vcpu < length board.old.state.vcpus }
-    requires few { length profile.now.apps ≤ APPS_MOST }
     requires stage { IsStageFor board.old.state.ram (view_named profile.now (name_of board.old.state lane.old.vcpu)) stage.now }
     ensures board { let w : Windows = seated (view_named profile.now (name_of board.old.state lane.old.vcpu)) lane.old.windows in
         board.new ≡ after_verdict board.old lane.old.vcpu (verdict_of board.old.steps board.old.state lane.old.vcpu w) }
@@ -106,7 +106,7 @@ pub(crate) fn turn(board: &mut Board, profile: &Views, stage: &GTable, lane: &mu
 
 /// Takes the pair that the lane wants.
 pub(crate) fn fill(view: &View, n: u32, lane: &mut Lane)
-    requires { 2 * n < view.now.groups.size }
+    requires { 2 * n < text_size view.now.groups.text }
     ensures { lane.new ≡ after_fill view.now n lane.old }
 {
     lane.windows = Windows {
@@ -119,8 +119,7 @@ pub(crate) fn fill(view: &View, n: u32, lane: &mut Lane)
 
 /// Looks up the group of the trap.
 pub(crate) fn look_up(table: &Table, trap: Trapped, lane: &mut Lane)
-    requires low { table.now.base ≤ trap.pc }
-    requires high { trap.pc < table.now.base + table.now.size }
+    requires { in_text table.now trap.pc ≡ true }
     ensures { lane.new ≡ after_look table.now trap lane.old }
 {
     lane.phase = Phase::Looked(look(table, trap));

@@ -1,7 +1,7 @@
 //! The core of a run.
 
 ghost use Rattle.std.specs.Prelude.{◌≡◌, ◌≢◌, ◌≤◌, ◌<◌, ◌+◌, ◌*◌, ◌^◌, [], ◌∷◌, ◌++◌, ℕ, List, IfOk, length, slice_index_or, slice_set};
-ghost use Rattle.guest_image.specs.Accepted.{IsImage, IsSetupFor};
+ghost use Rattle.guest_input.specs.Accepted.{IsImage, IsSetupFor};
 ghost use Rattle.function_table.specs.Groups.{groups_of, groups_count};
 ghost use Rattle.view_file.specs.declared.views.TheConstants.{APPS_MOST};
 ghost use Rattle.view_file.specs.Named.{view_named};
@@ -25,8 +25,8 @@ use function_table::table::Table;
 use gstage::table::GTable;
 use guest_board::board::Board;
 use guest_board::seen::Windows;
-use guest_image::image::Image;
-use guest_image::setup::Setup;
+use guest_input::image::Image;
+use guest_input::setup::Setup;
 use std::alloc::Global;
 use std::marker::Model;
 use std::mem;
@@ -73,7 +73,6 @@ fn event(
     requires paged { (paged_in views.old lane.old.windows.view).number ≡ lane.old.windows.view }
     requires groups { (paged_in views.old lane.old.windows.view).groups ≡ table.now }
     requires placed { IsPlaced table.now lane.old lane.old.phase }
-    requires few { length profile.now.apps ≤ APPS_MOST }
     requires stages { AreStagesFor board.old.state.ram (length profile.now.apps + 1) stages.now }
     ensures after { (lanes : List Lane) →
         (let old : World = record { profile = profile.now; groups = table.now; board = board.old; paged_views = views.old; lanes = lanes } in
@@ -112,9 +111,9 @@ impl<'a> Core<'a> {
     pub fn open(
         alloc: Global,
         image: &Image,
+        table: &'a Table,
         setup: &Setup,
         profile: &'a Views,
-        table: &'a Table,
     ) -> Result<Core<'a>, NoMemory>
         requires image { IsImage image.now }
         requires setup { IsSetupFor image.now setup.now }
@@ -123,7 +122,7 @@ impl<'a> Core<'a> {
         ensures { IfOk result (λ core. core ≡ first_world (record { image = image.now; setup = setup.now; views = profile.now })) }
     {
         let board = Board::open(alloc, image, setup)?;
-        let stages = start_stages(alloc, board.ram(), profile)?;
+        let stages = start_stages(alloc, board.ram(), profile, setup.gstage)?;
         let views = start_views(alloc, image, profile, table)?;
         let lanes = start_lanes(alloc, profile.choose(setup.start.as_ref()), setup.vcpus)?;
         Ok(Core {

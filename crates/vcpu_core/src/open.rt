@@ -2,21 +2,21 @@
 
 ghost use Rattle.std.specs.Prelude.{◌≡◌, ◌≤◌, ◌<◌, ◌+◌, ◌*◌, ◌^◌, ℕ, IfOk, length};
 ghost use Rattle.function_table.specs.Groups.{groups_of, groups_count};
-ghost use Rattle.guest_image.specs.Accepted.{IsImage};
-ghost use Rattle.guest_image.specs.declared.setup.Setup.{Setup};
-ghost use Rattle.view_file.specs.declared.views.TheConstants.{APPS_MOST};
+ghost use Rattle.guest_input.specs.Accepted.{IsImage};
+ghost use Rattle.guest_input.specs.declared.setup.Setup.{Setup};
 ghost use Rattle.view_file.specs.Fits.{IsViewsFor};
-ghost use Rattle.fc_numbers.specs.declared.places.TheConstants.{PAGE};
-ghost use Rattle.vcpu_core.specs.Stages.{AreStagesFor};
+ghost use Rattle.vcpu_core.specs.Stages.{AreOfKind, AreStagesFor};
 ghost use Rattle.vcpu_core.specs.First.{first_paged_views, first_lanes};
 
 use crate::lane::{Lane, Phase};
+use fc_numbers::machine::GKind;
 use fc_numbers::memory::NoMemory;
 use fc_numbers::places::{VcpuNo, ViewNo};
 use function_table::table::Table;
 use gstage::table::GTable;
 use guest_board::seen::Windows;
-use guest_image::image::Image;
+use guest_input::image::Image;
+use guest_input::ranges::copy_of;
 use guest_ram::GuestRam;
 use std::alloc::Global;
 use view_file::views::Views;
@@ -36,7 +36,7 @@ pub(crate) fn start_views(
     ensures { (setup : Setup) → IfOk result (λ views.
         views.items ≡ first_paged_views (record { image = image.now; setup = setup; views = profile.now }) (length profile.now.apps + 1)) }
 {
-    let count = profile.apps.as_slice().len() as u8 + 1;
+    let count = profile.apps.len() as u8 + 1;
     let mut views = Vec::new(alloc);
     for v in 0..count {
         let view = ViewNo(v);
@@ -46,21 +46,22 @@ pub(crate) fn start_views(
     Ok(views)
 }
 
-/// The second-stage table of each view for the text and the RAM of this memory.
+/// The second-stage table of each view, of this kind, for the text and the RAM of this memory.
 #[tactic(auto, using(crate::proofs::Staged::spans_of))]
 pub(crate) fn start_stages(
     alloc: Global,
     ram: &GuestRam,
     profile: &Views,
+    kind: GKind,
 ) -> Result<Vec<GTable>, NoMemory>
-    requires text { ram.now.text.end ≤ ram.now.text.start + 1024 * PAGE }
-    requires few { length profile.now.apps ≤ APPS_MOST }
-    ensures { IfOk result (λ stages. AreStagesFor ram.now (length profile.now.apps + 1) stages.items) }
+    ensures stages { IfOk result (λ stages. AreStagesFor ram.now (length profile.now.apps + 1) stages.items) }
+    ensures kinds { IfOk result (λ stages. AreOfKind kind stages.items) }
 {
-    let count = profile.apps.as_slice().len() as u8 + 1;
+    let count = profile.apps.len() as u8 + 1;
     let mut stages = Vec::new(alloc);
     for v in 0..count {
-        stages.push(GTable::build(alloc, ram.text(), ram.span(), ViewNo(v))?)?;
+        let text = copy_of(ram.text());
+        stages.push(GTable::build(alloc, text, ram.span(), ViewNo(v), kind)?)?;
     }
     Ok(stages)
 }

@@ -1,5 +1,5 @@
 use Rattle.std.proofs.Common.{◌≡◌}
-use Rattle.guest_image.specs.declared.setup.Setup.{Setup}
+use Rattle.guest_input.specs.declared.setup.Setup.{Setup}
 use Rattle.vcpu_core.specs.First.{first_paged_views}
 use Rattle.vcpu_core.proofs.open.start_views.Given as goal
 

@@ -1,8 +1,6 @@
 use Rattle.std.proofs.Common.{◌≡◌, ◌+◌, ◌*◌, ◌≤◌, sym, ◌∙◌, subst, ap, arith, length, List}
 use Rattle.std.proofs.lemmas.Grind.{common_steps}
 use Rattle.function_table.specs.Groups.{Groups}
-use Rattle.fc_numbers.specs.declared.places.TheConstants.{PAGE}
-use Rattle.guest_ram.specs.Ram.{Ram}
 use Rattle.view_file.specs.Named.{view_named}
 use Rattle.view_store.specs.Paged.{PagedView}
 use Rattle.guest_board.specs.Board.{Seat}
@@ -12,7 +10,7 @@ use Rattle.vcpu_core.specs.declared.lane.Lane.{Lane}
 use Rattle.vcpu_core.specs.First.{first_world, first_paged_views, first_lanes}
 use Rattle.vcpu_core.specs.World.{World, IsReady}
 use Rattle.vcpu_core.specs.Stages.{AreStagesFor}
-use Rattle.vcpu_core.proofs.Start.{first_ready, first_few}
+use Rattle.vcpu_core.proofs.Start.{first_ready}
 use Rattle.vcpu_core.proofs.machine.Core.open.Goals as goal
 
 pub invariant_of-result : goal.invariant_of-result
@@ -35,13 +33,5 @@ invariant_of-result c =
     = subst (λ x. IsReady (after c.args.table.now c.in_ok-board.board c.in_ok-views.views.items x)) (sym same_lanes) three in
     record {
       ready = ready;
-      stages = subst (λ x. AreStagesFor x (length c.args.profile.now.apps + 1) c.in_ok-stages.stages.items) c.ram.ensures c.in_ok-stages.ensures;
+      stages = subst (λ x. AreStagesFor x (length c.args.profile.now.apps + 1) c.in_ok-stages.stages.items) c.ram.ensures c.in_ok-stages.ensures.stages;
     }
-
-pub start_stages-requires-clause-text : goal.start_stages-requires-clause-text
-start_stages-requires-clause-text c =
-    let given : Config = record { image = c.args.image.now; setup = c.args.setup.now; views = c.args.profile.now } in
-    let ok : IsConfig given = record { image = c.requires.image; setup = c.requires.setup; views = c.requires.views } in
-    let same : c.ram.result.now ≡ (first_seat c.args.image.now c.args.setup.now).state.ram
-    = c.ram.ensures ∙ ap (λ (b : Seat). b.state.ram) c.in_ok-board.ensures in
-    subst (λ (x : Ram). x.text.end ≤ x.text.start + 1024 * PAGE) (sym same) (first_few given ok)
