@@ -1,4 +1,5 @@
 pub mod Text
 pub mod TextIn
+pub mod TextLaws
 pub mod PartIn
 pub mod Accepted
