@@ -1,5 +1,5 @@
 -- The functions of text start where they may: at even offsets that rise, and at the first byte of each range.
-use Rattle.std.proofs.Common.{◌≡◌, ℕ, zero, suc, ◌+◌, ◌-◌, ◌%◌, ◌<◌, ◌≤◌, ◌==◌, nat_le, nat_lt, Bool, true, false, cond, not, ◌&&◌, ◌||◌, List, [], ◌∷◌, ◌++◌, length, map, take, fold, unwrap_or, Option, Some, None, refl, sym, ap, ◌∙◌, subst, arith, append_assoc, length-append}
+use Rattle.std.proofs.Common.{◌≡◌, ℕ, zero, suc, ◌+◌, ◌-◌, ◌%◌, ◌<◌, ◌≤◌, ◌==◌, Bool, true, false, cond, ◌&&◌, ◌||◌, List, [], ◌∷◌, ◌++◌, length, map, take, fold, unwrap_or, Option, Some, None, refl, sym, ap, ◌∙◌, subst, arith, append_assoc, length-append}
 use Rattle.std.specs.Prelude.{All, Contains, slice_index_or}
 use Rattle.std.specs.List.{filter, list_any}
 use Rattle.std.proofs.lemmas.List.{map-append}
@@ -15,8 +15,8 @@ use Rattle.guest_input.specs.Text.{IsStartIn, bytes_before, flat_of, no_span}
 use Rattle.guest_input.specs.Accepted.{starts_of, offsets_of, IsAscendingFrom, IsStarts}
 use Rattle.elf_read.specs.declared.laid.NamedPlace.{NamedPlace}
 use Rattle.elf_read.specs.Kernel.{is_odd_in}
-use Rattle.elf_read.specs.Starts.{starts_in, least_at, lesser, name_at, head_name, function_of, and_then_listed, functions_from, functions_of, functions_in}
-use Rattle.elf_read.proofs.Tests.{neither, or-true, eqb_true, eqb_false}
+use Rattle.elf_read.specs.Starts.{starts_in, least_at, lesser, name_at, head_name, and_then_listed, functions_from, functions_of, functions_in}
+use Rattle.elf_read.proofs.Passing.{neither, or-true, eqb_true, eqb_false}
 
 -- what is known of a range of text
 pub range_some : (low : ℕ) (ss : List Span) (i : ℕ) (s : Span) → AreRangesFrom low ss → i < length ss → s ≡ slice_index_or ss i s → (0 < size_of s) × (size_of s ≤ text_size ss)
@@ -179,7 +179,7 @@ rest_ascends all pre (s ∷ ss) n low named r less =
     let sizes : text_size (pre ++ s ∷ []) + text_size ss ≡ text_size pre + text_size (s ∷ ss) = omega (arith, text_size-append pre (s ∷ [])) in
     let more : (k : ℕ) → k < bytes_before all n + size_of s → IsAscendingFrom k (offsets_of all (starts_of (functions_in (n + 1) ss named))) (text_size pre + text_size (s ∷ ss)) =
     λ k h. subst (IsAscendingFrom k (offsets_of all (starts_of (functions_in (n + 1) ss named)))) sizes
-      (rest_ascends all (pre ++ s ∷ []) ss (n + 1) k named (rest_next all pre ss s n named r) (omega (arith, h, before, text_size-append pre (s ∷ [])))) in
+    (rest_ascends all (pre ++ s ∷ []) ss (n + 1) k named (rest_next all pre ss s n named r) (omega (arith, h, before, text_size-append pre (s ∷ [])))) in
     subst (λ os. IsAscendingFrom low os (text_size pre + text_size (s ∷ ss))) (sym (offsets_append all (functions_of n s named) (functions_in (n + 1) ss named)))
     (append_ascending (offsets_of all (starts_of (functions_of n s named))) (offsets_of all (starts_of (functions_in (n + 1) ss named))) low (bytes_before all n + size_of s) (text_size pre + text_size (s ∷ ss)) here more)
 
@@ -230,13 +230,13 @@ rest_heads all pre (s ∷ ss) n zero named r within =
     let here = head_here all n (starts_in s named) (size_of s) (some_size s r.ranges.1) in
     subst (λ k. Contains (offsets_of all (starts_of (functions_in n (s ∷ ss) named))) (bytes_before all k)) (sym at)
     (subst (λ os. Contains os (bytes_before all n)) (sym (offsets_append all (functions_of n s named) (functions_in (n + 1) ss named)))
-      (Contains-append_left (offsets_of all (starts_of (functions_of n s named))) (offsets_of all (starts_of (functions_in (n + 1) ss named))) (bytes_before all n) here))
+    (Contains-append_left (offsets_of all (starts_of (functions_of n s named))) (offsets_of all (starts_of (functions_in (n + 1) ss named))) (bytes_before all n) here))
 rest_heads all pre (s ∷ ss) n (suc j) named r within =
     let at : n + 1 + j ≡ n + suc j = omega arith in
     let more = rest_heads all (pre ++ s ∷ []) ss (n + 1) j named (rest_next all pre ss s n named r) (omega (arith, within)) in
     subst (λ k. Contains (offsets_of all (starts_of (functions_in n (s ∷ ss) named))) (bytes_before all k)) at
     (subst (λ os. Contains os (bytes_before all (n + 1 + j))) (sym (offsets_append all (functions_of n s named) (functions_in (n + 1) ss named)))
-      (Contains-append_right (offsets_of all (starts_of (functions_of n s named))) (offsets_of all (starts_of (functions_in (n + 1) ss named))) (bytes_before all (n + 1 + j)) more))
+    (Contains-append_right (offsets_of all (starts_of (functions_of n s named))) (offsets_of all (starts_of (functions_in (n + 1) ss named))) (bytes_before all (n + 1 + j)) more))
 
 pub functions_heads : (all : List Span) (low n : ℕ) (named : List NamedPlace) → AreRangesFrom low all → list_any (is_odd_in all) named ≡ false → n < length all
     → Contains (offsets_of all (starts_of (functions_in 0 all named))) (bytes_before all n)
@@ -262,9 +262,9 @@ in_from all n starts next (suc k) size even within is ends =
     elim (name_at starts next) as (λ o. name_at starts next ≡ o → AllIn all (and_then_listed n next o (functions_from n starts (next + 1) k))) [
       | None ↦ λ found. in_from all n starts (next + 1) k size even within is (omega (arith, ends))
       | Some name ↦ λ found. (
-          record { range = within; inside = omega (arith, is, ends); even = name_even starts next name even found },
-          in_from all n starts (next + 1) k size even within is (omega (arith, ends)),
-        )
+        record { range = within; inside = omega (arith, is, ends); even = name_even starts next name even found },
+        in_from all n starts (next + 1) k size even within is (omega (arith, ends)),
+      )
     ] refl
 
 range_at : (all pre ss : List Span) (s : Span) (n : ℕ) → all ≡ pre ++ s ∷ ss → n ≡ length pre → slice_index_or all n no_span ≡ s

@@ -1,31 +1,29 @@
 -- What is accepted gives an image that may be run.
-use Rattle.std.proofs.Common.{◌≡◌, ℕ, ◌+◌, ◌-◌, ◌%◌, ◌<◌, ◌≤◌, ◌==◌, nat_le, nat_lt, Bool, true, false, not, ◌&&◌, ◌||◌, List, [], ◌∷◌, length, map, Option, Some, None, Result, Ok, Err, refl, sym, ap, ◌∙◌, subst, arith}
+use Rattle.std.proofs.Common.{◌≡◌, ℕ, ◌%◌, ◌<◌, ◌≤◌, ◌==◌, nat_le, Bool, true, false, not, ◌&&◌, List, [], ◌∷◌, length, map, Option, Some, None, Ok, refl, sym, ap, ◌∙◌, subst, arith}
 use Rattle.std.specs.Prelude.{if◌then◌else◌, All, Contains, flat_map}
 use Rattle.std.specs.List.{list_all, list_any}
 use Rattle.std.proofs.lemmas.Option.{none-some, same_Some}
 use Rattle.std.proofs.lemmas.List.{length-map}
 use Rattle.std.proofs.lemmas.Bool.Decides.{nat_tests}
 use Rattle.fc_numbers.specs.declared.places.Span.{Span}
-use Rattle.fc_numbers.specs.declared.places.TheConstants.{RAM_START, RAM_MOST}
+use Rattle.fc_numbers.specs.declared.places.TheConstants.{RAM_START}
 use Rattle.fc_numbers.specs.declared.spans.TheConstants.{RANGES_MOST, TEXT_MOST}
 use Rattle.fc_numbers.specs.Spans.{in_text, text_size, AreRangesFrom}
 use Rattle.guest_input.specs.declared.limits.TheConstants.{FUNCTIONS_MOST}
-use Rattle.guest_input.specs.declared.image.Image.{Image}
 use Rattle.guest_input.specs.declared.image.Function.{Function}
 use Rattle.guest_input.specs.Text.{Range, AreRanges, IsStartIn, span_of, spans_of, bytes_of, bytes_before}
 use Rattle.guest_input.specs.TextIn.{cut}
-use Rattle.guest_input.specs.Accepted.{starts_of, offsets_of, IsStarts, is_apart, IsPartOf, AllParts, IsImage}
+use Rattle.guest_input.specs.Accepted.{starts_of, offsets_of, IsStarts, IsPartOf, AllParts, IsImage}
 use Rattle.guest_input.proofs.Cut.{cut_spans, cut_bytes}
 use Rattle.elf_read.specs.declared.laid.Segment.{Segment}
-use Rattle.elf_read.specs.declared.laid.NamedPlace.{NamedPlace}
 use Rattle.elf_read.specs.declared.parts.ElfFault.TheVariants.{NoText, TooManyTexts, WritableText, Misplaced, OddFunction, TooLarge, TooManyFunctions, EntryOutside}
 use Rattle.elf_read.specs.declared.parts.ElfParts.{ElfParts}
 use Rattle.elf_read.specs.Laid.{Layout}
 use Rattle.elf_read.specs.Steps.{must, or_fault}
 use Rattle.elf_read.specs.Starts.{functions_in}
 use Rattle.elf_read.specs.Kernel.{is_text, is_in_ram, is_at_page, in_order, are_apart_from, pages_of, joined, text_spans, text_bytes, page_bytes, part_of, is_beside, are_in_place, are_placed, is_odd_in, is_even_in, entry_in, kernel_at, kernel_in, kernel_of_laid, image_with}
-use Rattle.elf_read.proofs.Tests.{both, is_false, eqb_true, leb_true, bind_ok, must_ok, or_fault_ok, same_Ok}
-use Rattle.elf_read.proofs.Segments.{InRam, in_ram, passes-in_order}
+use Rattle.elf_read.proofs.Passing.{both, is_false, eqb_true, leb_true, bind_ok, must_ok, or_fault_ok, same_Ok}
+use Rattle.elf_read.proofs.Segments.{in_ram, passes-in_order}
 use Rattle.elf_read.proofs.Texts.{IsCode, length-filled, ranges_same, spans_law, spans_few, spans_fit, text_law}
 use Rattle.elf_read.proofs.FunctionLaws.{functions_ascend, functions_heads, functions_inside}
 
@@ -91,7 +89,7 @@ passed_law l entry digest p =
       inside = subst (λ (x : List Span). All (IsStartIn x) (starts_of functions)) (sym same) (functions_inside spans RAM_START l.named ranges p.even);
       starts = subst (λ (x : List Span). IsStarts (offsets_of x (starts_of functions)) (text_size x)) (sym same) (functions_ascend spans RAM_START l.named ranges some p.even);
       heads = λ n within. subst (λ (x : List Span). Contains (offsets_of x (starts_of functions)) (bytes_before x n)) (sym same)
-        (functions_heads spans RAM_START n l.named ranges p.even (omega (arith, within, length-spans (cut spans bytes), ap (λ (x : List Span). length x) same)));
+          (functions_heads spans RAM_START n l.named ranges p.even (omega (arith, within, length-spans (cut spans bytes), ap (λ (x : List Span). length x) same)));
       few = p.few;
       entry = subst (λ (x : List Span). in_text x entry ≡ true) (sym same) first.0;
       entry_even = first.1;
@@ -212,9 +210,9 @@ laid_text code sorted ranges c order is = record {
   fit = subst (λ (r : List Span). text_size r < 18446744073709551616) (sym is) (spans_fit code c);
   inside = ap (list_all is_in_ram) order ∙ passes-in_order is_in_ram code c.inside;
   text = λ small.
-    let here : text_size (text_spans code) ≤ TEXT_MOST = subst (λ (r : List Span). text_size r ≤ TEXT_MOST) is small in
-    subst (λ (r : List Span). AreRanges r (flat_map page_bytes sorted)) (sym is)
-    (subst (λ (ss : List Segment). AreRanges (text_spans code) (flat_map page_bytes ss)) (sym order) (subst (λ (bytes : List ℕ). AreRanges (text_spans code) bytes) (sym (bytes_are code)) (text_law code c here)));
+      let here : text_size (text_spans code) ≤ TEXT_MOST = subst (λ (r : List Span). text_size r ≤ TEXT_MOST) is small in
+      subst (λ (r : List Span). AreRanges r (flat_map page_bytes sorted)) (sym is)
+      (subst (λ (ss : List Segment). AreRanges (text_spans code) (flat_map page_bytes ss)) (sym order) (subst (λ (bytes : List ℕ). AreRanges (text_spans code) bytes) (sym (bytes_are code)) (text_law code c here)));
 }
 
 -- what was put together is what the definition says

@@ -1,7 +1,7 @@
-pub mod FunctionList
 pub mod FunctionLaws
+pub mod FunctionList
 pub mod Kernels
+pub mod Passing
 pub mod Segments
 pub mod TableLemmas
-pub mod Tests
 pub mod Texts

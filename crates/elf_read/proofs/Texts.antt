@@ -1,5 +1,5 @@
 -- The pages of code, in ranges, are lawful text.
-use Rattle.std.proofs.Common.{◌≡◌, ℕ, zero, suc, ◌+◌, ◌-◌, ◌%◌, ◌<◌, ◌≤◌, ◌==◌, nat_le, nat_lt, Bool, true, false, ◌&&◌, ◌||◌, cond, List, [], ◌∷◌, ◌++◌, length, map, take, drop, replicate, refl, sym, ap, subst, ◌∙◌, arith, length-append}
+use Rattle.std.proofs.Common.{◌≡◌, ℕ, suc, ◌+◌, ◌-◌, ◌%◌, ◌<◌, ◌≤◌, ◌==◌, nat_le, nat_lt, true, false, ◌||◌, cond, List, [], ◌∷◌, ◌++◌, length, map, take, drop, replicate, refl, sym, ap, ◌∙◌, arith, length-append}
 use Rattle.std.specs.Prelude.{flat_map}
 use Rattle.std.specs.List.{list_all}
 use Rattle.std.proofs.lemmas.List.{length-replicate}
@@ -7,12 +7,12 @@ use Rattle.std.proofs.Math.Seq.{take-append_seam, drop-append_seam}
 use Rattle.fc_numbers.specs.declared.places.Span.{Span}
 use Rattle.fc_numbers.specs.declared.places.TheConstants.{RAM_START, RAM_MOST, PAGE}
 use Rattle.fc_numbers.specs.declared.spans.TheConstants.{RANGES_MOST, TEXT_MOST}
-use Rattle.fc_numbers.specs.Spans.{size_of, holds, in_text, text_size, AreRangesFrom, IsTextBelow}
+use Rattle.fc_numbers.specs.Spans.{size_of, holds, in_text, text_size, AreRangesFrom}
 use Rattle.guest_input.specs.Text.{Range, span_of, spans_of, bytes_of, AreRanges}
 use Rattle.elf_read.specs.declared.laid.Segment.{Segment}
 use Rattle.elf_read.specs.Kernel.{whole_pages, filled, is_some, is_text, is_in_ram, is_at_page, in_order, pages_of, are_apart_from, join, joined, text_spans, text_bytes, page_bytes}
-use Rattle.elf_read.proofs.Tests.{both, eqb_true, eqb_false, leb_true, ltb_true}
-use Rattle.elf_read.proofs.Segments.{InRam, in_ram, passes-in_order, length-in_order}
+use Rattle.elf_read.proofs.Passing.{both, eqb_true, eqb_false, leb_true, ltb_true}
+use Rattle.elf_read.proofs.Segments.{in_ram, passes-in_order, length-in_order}
 
 -- ---- two lists of ranges
 
@@ -69,9 +69,14 @@ pages_follow low (s ∷ ss) some inside page apart =
     let b = both (is_in_ram s) (list_all is_in_ram ss) inside in
     let c = both (is_at_page s) (list_all is_at_page ss) page in
     let d = both (nat_le low s.place) (are_apart_from (s.place + whole_pages s.size) ss) apart in
-    let at : s.place % PAGE ≡ 0 = eqb_true (s.place % PAGE) 0 c.0 in
-    (leb_true low s.place d.0, more_pages s.place s.size (ltb_true 0 s.size a.0), at, pages_whole s.place s.size at,
-      pages_high s.place s.size at (in_ram s b.0).high, pages_follow (s.place + whole_pages s.size) ss a.1 b.1 c.1 d.1)
+    let at : s.place % PAGE ≡ 0 = eqb_true (s.place % PAGE) 0 c.0 in (
+      leb_true low s.place d.0,
+      more_pages s.place s.size (ltb_true 0 s.size a.0),
+      at,
+      pages_whole s.place s.size at,
+      pages_high s.place s.size at (in_ram s b.0).high,
+      pages_follow (s.place + whole_pages s.size) ss a.1 b.1 c.1 d.1,
+    )
 
 -- ---- ranges
 
@@ -105,7 +110,7 @@ joined_size low (s ∷ ss) k = join_size s (joined ss) k.1 (joined_ranges s.end 
 join_few : (s : Span) (ss : List Span) → length (join s ss) ≤ suc (length ss)
 join_few s [] = omega arith
 join_few s (t ∷ ts) =
-    elim (s.end == t.start) as (λ x. length (cond x (record { start = s.start; end = t.end } ∷ ts) (s ∷ t ∷ ts)) ≤ suc (suc (length ts))) [ | true ↦ omega arith | false ↦ omega arith ]
+    elim (s.end == t.start) as (λ x. length (cond x (record { start = s.start; end = t.end } ∷ ts) (s ∷ t ∷ ts)) ≤ suc (suc (length ts))) [ true ↦ omega arith | false ↦ omega arith ]
 
 joined_few : (ss : List Span) → length (joined ss) ≤ length ss
 joined_few [] = omega arith
@@ -118,7 +123,7 @@ EndBy end (s ∷ ss) = (s.end ≤ end) × EndBy end ss
 join_ends : (end : ℕ) (s : Span) (ss : List Span) → s.end ≤ end → EndBy end ss → EndBy end (join s ss)
 join_ends end s [] a k = (a, tt)
 join_ends end s (t ∷ ts) a k =
-    elim (s.end == t.start) as (λ x. EndBy end (cond x (record { start = s.start; end = t.end } ∷ ts) (s ∷ t ∷ ts))) [ | true ↦ k | false ↦ (a, k) ]
+    elim (s.end == t.start) as (λ x. EndBy end (cond x (record { start = s.start; end = t.end } ∷ ts) (s ∷ t ∷ ts))) [ true ↦ k | false ↦ (a, k) ]
 
 joined_ends : (low : ℕ) (ss : List Span) → Follow low ss → EndBy (RAM_START + RAM_MOST) (joined ss)
 joined_ends low [] k = tt

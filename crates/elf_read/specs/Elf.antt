@@ -1,8 +1,7 @@
 -- The kernel that an ELF file holds, or the first fault.
 -- The format is ELF-64 for RISC-V; which files are taken is this project's own.
-use Rattle.std.specs.Prelude.{ℕ, ◌+◌, ◌-◌, ◌*◌, ◌==◌, ◌&&◌, ◌||◌, nat_le, nat_lt, Bool, true, not, List, [], ◌∷◌, length, map, take, slice_index, bytes_eq, Option, Some, None, option_map, Result}
+use Rattle.std.specs.Prelude.{ℕ, ◌+◌, ◌*◌, ◌==◌, ◌&&◌, ◌||◌, nat_le, nat_lt, Bool, true, not, List, [], ◌∷◌, length, map, take, slice_index, bytes_eq, Option, Some, None, Result}
 use Rattle.std.specs.List.{filter, find, list_all, list_any, slice_get}
-use Rattle.fc_numbers.specs.declared.places.TheConstants.{RAM_START, RAM_MOST}
 use Rattle.elf_read.specs.declared.fields.TheConstants.{ET_EXEC, EM_RISCV, ELFCLASS64, ELFDATA2LSB, EHDR_SIZE, PHDR_SIZE, SHDR_SIZE}
 use Rattle.elf_read.specs.declared.fields.Header.{Header}
 use Rattle.elf_read.specs.declared.fields.ProgramHeader.{ProgramHeader}

@@ -109,11 +109,7 @@ fn segment_of(alloc: Global, file: &[u8], header: &ProgramHeader) -> Result<Segm
 }
 
 /// The segments of headers, with their bytes of the file.
-fn loaded(
-    alloc: Global,
-    file: &[u8],
-    headers: &[ProgramHeader],
-) -> Result<Vec<Segment>, NoMemory>
+fn loaded(alloc: Global, file: &[u8], headers: &[ProgramHeader]) -> Result<Vec<Segment>, NoMemory>
     requires { list_all (is_loaded file.now) headers.now ≡ true }
     ensures { IfOk result (λ segments. segments.items ≡ map (segment_of file.now) headers.now) }
 {
@@ -172,7 +168,14 @@ fn kernel_by(alloc: Global, file: &[u8], header: &Header) -> Result<ElfParts, El
     }
     let code = code_of(alloc, segments.as_slice())?;
     let named = named_by(alloc, file, code.as_slice(), sections.as_slice(), table)?;
-    let laid = layout(alloc, file, header, segments.as_slice(), code.as_slice(), named)?;
+    let laid = layout(
+        alloc,
+        file,
+        header,
+        segments.as_slice(),
+        code.as_slice(),
+        named,
+    )?;
     kernel_of_laid(alloc, laid)
 }
 

@@ -1,7 +1,7 @@
 //! What a run is made of: the image of a kernel and the setup of its machine, as all crates above the readers see them.
 //!
 //! - [`image`]: kernel text in ranges, functions and their starts, data parts, the image.
-//! - [`ranges`]: the bytes of text, with the places where they stand.
+//! - [`ranges`]: the bytes of text, with the places where they stand; [`laws`]: how the two go together.
 //! - [`setup`]: vCPUs, RAM, steps, hook, device events.
 //! - [`limits`]: how much of each there may be.
 //! - [`laws`]: how starts are ordered.
