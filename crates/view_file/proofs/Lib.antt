@@ -6,3 +6,5 @@ pub mod Functions
 pub mod Leasts
 pub mod Ordered
 pub mod TestKernel
+pub mod Texts
+pub mod Unions
