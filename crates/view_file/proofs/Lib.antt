@@ -5,6 +5,7 @@ pub mod EachOf
 pub mod Functions
 pub mod Leasts
 pub mod Ordered
+pub mod ReadBack
 pub mod TestKernel
 pub mod Texts
 pub mod Unions

@@ -1,6 +1,7 @@
 pub mod Base
 pub mod Faults
 pub mod Fits
+pub mod Lawful
 pub mod Least
 pub mod Named
 pub mod Text

@@ -1,8 +1,10 @@
 //! Writing views as JSON.
 
-ghost use Rattle.std.specs.Prelude.{◌≡◌, IfOk, string_bytes};
+ghost use Rattle.std.specs.Prelude.{◌≡◌, IfOk, Ok, string_bytes};
 ghost use Rattle.serde_json.specs.Data.{string};
 ghost use Rattle.serde_json.specs.View.{view};
+ghost use Rattle.view_file.specs.Fits.{Parses};
+ghost use Rattle.view_file.specs.Lawful.{IsViews};
 ghost use Rattle.view_file.specs.Text.{app_data, apps_data, start_data, starts_data, text_of, views_data, views_object};
 
 use crate::views::{App, Views};
@@ -81,10 +83,11 @@ fn views_value(alloc: Global, views: &Views) -> Result<Value, NoMemory>
     object_of(alloc, apps, shared, text)
 }
 
-/// The text of these views, as a file of version 2.
+/// The text of these views, as a file of version 2. It reads back as these views.
 #[tactic(auto, using(crate::proofs::Texts::no_float))]
 pub fn write_views(alloc: Global, views: &Views) -> Result<Vec<u8>, NoMemory>
-    ensures { IfOk result (λ bytes. bytes.items ≡ text_of views.now) }
+    ensures text { IfOk result (λ bytes. bytes.items ≡ text_of views.now) }
+    ensures reads_back { IfOk result (λ bytes. IsViews views.now → Parses bytes.items (Ok views.now)) }
 {
     let value = views_value(alloc, views)?;
     Ok(value.to_vec(alloc)?)
