@@ -6,8 +6,7 @@ use Rattle.fc_numbers.specs.declared.places.Span.{Span}
 use Rattle.std.specs.List.{list_any}
 use Rattle.std.proofs.lemmas.Bool.Decides.{nat_tests}
 use Rattle.fc_numbers.specs.declared.places.TheConstants.{RAM_START}
-use Rattle.fc_numbers.specs.Spans as spans
-use Rattle.fc_numbers.specs.Spans.{offset_in, place_in, text_size}
+use Rattle.fc_numbers.specs.Spans.{place_in, text_size}
 use Rattle.fc_numbers.proofs.TextLaws.{offset_place, place_inside}
 use Rattle.guest_input.specs.declared.image.Start.{Start}
 use Rattle.guest_input.specs.Accepted.{IsAscendingFrom, IsStarts}
@@ -41,11 +40,11 @@ starts_below size offset (x ∷ xs) starts one =
     let later : is_one xs offset ≡ true → offset < size = ascending_below 0 size offset xs starts.1 in
     grind (arith, nat_tests, here, first, later)
 
-both-left : (a b : Bool) → (a && b) ≡ true → a ≡ true
+pub both-left : (a b : Bool) → (a && b) ≡ true → a ≡ true
 both-left true b h = refl
 both-left false b h = h
 
-both-right : (a b : Bool) → (a && b) ≡ true → b ≡ true
+pub both-right : (a b : Bool) → (a && b) ≡ true → b ≡ true
 both-right true b h = h
 both-right false b h = cc
 

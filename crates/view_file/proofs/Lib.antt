@@ -6,4 +6,7 @@ pub mod Functions
 pub mod Leasts
 pub mod Once
 pub mod Ordered
+pub mod ReadBack
 pub mod TestKernel
+pub mod Texts
+pub mod Unions

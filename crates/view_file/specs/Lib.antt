@@ -1,7 +1,10 @@
 pub mod Base
 pub mod Faults
 pub mod Fits
+pub mod Lawful
 pub mod Least
 pub mod Named
 pub mod Once
+pub mod Text
+pub mod Union
 pub mod Written

@@ -82,11 +82,18 @@ fn file(
     shared: &str,
     text: &str,
 ) -> Result<String, AllocError> {
-    format!(in alloc; "{{\"version\":{version},\"text\":\"{text}\",\"shared\":{shared},\"apps\":{apps}}}")
+    format!(in alloc;
+        "{{\"version\":{version},\"text\":\"{text}\",\"shared\":{shared},\"apps\":{apps}}}"
+    )
 }
 
 /// Adds a name and the starts that are listed under it, each as range, `+` and offset.
-fn show_starts(shown: &mut String, name: &str, starts: &[Start], alloc: Global) -> Result<(), AllocError> {
+fn show_starts(
+    shown: &mut String,
+    name: &str,
+    starts: &[Start],
+    alloc: Global,
+) -> Result<(), AllocError> {
     shown.push_str(name)?;
     for at in starts {
         let start = format!(in alloc; " {}+{}", at.range, at.offset)?;
@@ -201,10 +208,34 @@ fn first_fault_is_answered(rt: HostRuntime) -> Result<(), Fail> {
         ("2", none, "[[0,0,0]]", DIGEST, "2 Shape"),
         ("2", none, "[[4,0]]", DIGEST, "2 Shape"),
         ("2", none, "[[0,4294967296]]", DIGEST, "2 Shape"),
-        ("2", "[{\"functions\":[0],\"name\":\"s h\"}]", none, DIGEST, "2 Shape"),
-        ("2", "[{\"functions\":[],\"name\":7}]", none, DIGEST, "2 Shape"),
-        ("2", "[{\"functions\":[],\"name\":\"s h\"}]", none, other, "6 BadName"),
-        ("2", "[{\"functions\":[],\"name\":\"\"}]", none, other, "6 BadName"),
+        (
+            "2",
+            "[{\"functions\":[0],\"name\":\"s h\"}]",
+            none,
+            DIGEST,
+            "2 Shape",
+        ),
+        (
+            "2",
+            "[{\"functions\":[],\"name\":7}]",
+            none,
+            DIGEST,
+            "2 Shape",
+        ),
+        (
+            "2",
+            "[{\"functions\":[],\"name\":\"s h\"}]",
+            none,
+            other,
+            "6 BadName",
+        ),
+        (
+            "2",
+            "[{\"functions\":[],\"name\":\"\"}]",
+            none,
+            other,
+            "6 BadName",
+        ),
         (
             "2",
             "[{\"functions\":[],\"name\":\"sh\"},{\"functions\":[],\"name\":\"sh\"}]",
@@ -214,8 +245,20 @@ fn first_fault_is_answered(rt: HostRuntime) -> Result<(), Fail> {
         ),
         ("2", none, "[[0,2]]", other, "3 OtherText"),
         ("1", none, "[4294967295,2]", DIGEST, "4 UnknownFunction 0 2"),
-        ("2", none, "[[3,4294967295]]", DIGEST, "4 UnknownFunction 3 4294967295"),
-        ("2", none, "[[1,12],[0,4096]]", DIGEST, "4 UnknownFunction 0 4096"),
+        (
+            "2",
+            none,
+            "[[3,4294967295]]",
+            DIGEST,
+            "4 UnknownFunction 3 4294967295",
+        ),
+        (
+            "2",
+            none,
+            "[[1,12],[0,4096]]",
+            DIGEST,
+            "4 UnknownFunction 0 4096",
+        ),
         (
             "2",
             "[{\"functions\":[[1,2]],\"name\":\"sh\"},{\"functions\":[[0,14]],\"name\":\"vi\"}]",
@@ -236,7 +279,8 @@ fn names_have_views_and_bases(rt: HostRuntime) -> Result<(), Fail> {
     let alloc = rt.alloc();
     let image = kernel(alloc)?;
     let table = Table::of(alloc, &image)?;
-    let apps = "[{\"functions\":[[1,0]],\"name\":\"vi\"},{\"functions\":[[0,12],[0,12]],\"name\":\"sh\"}]";
+    let apps =
+        "[{\"functions\":[[1,0]],\"name\":\"vi\"},{\"functions\":[[0,12],[0,12]],\"name\":\"sh\"}]";
     let bytes = file(alloc, "2", apps, "[]", DIGEST)?;
     let Ok(views) = read_views(alloc, bytes.as_bytes(), &image, &table) else {
         panic!(rt; "the views are refused");

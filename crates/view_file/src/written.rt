@@ -81,7 +81,11 @@ fn start(version: Version, value: &Value) -> Option<Start>
     }
 }
 
-fn each_start(alloc: Global, version: Version, items: &[Value]) -> Result<Option<Items<Start>>, NoMemory>
+fn each_start(
+    alloc: Global,
+    version: Version,
+    items: &[Value],
+) -> Result<Option<Items<Start>>, NoMemory>
     ensures { IfOk result (λ found. found ≡ each_of (start_of version) (map view items.now)) }
 {
     let mut found = Items::new(alloc);
@@ -162,7 +166,11 @@ fn app(alloc: Global, version: Version, value: &Value) -> Result<Option<WrittenA
     Ok(Some(WrittenApp { name, functions }))
 }
 
-fn each_app(alloc: Global, version: Version, items: &[Value]) -> Result<Option<Items<WrittenApp>>, NoMemory>
+fn each_app(
+    alloc: Global,
+    version: Version,
+    items: &[Value],
+) -> Result<Option<Items<WrittenApp>>, NoMemory>
     ensures { IfOk result (λ found. found ≡ each_of (app_of version) (map view items.now)) }
 {
     let mut found = Items::new(alloc);
@@ -176,7 +184,11 @@ fn each_app(alloc: Global, version: Version, items: &[Value]) -> Result<Option<I
 }
 
 #[tactic(auto, unfolding(crate::specs::Written::apps_of))]
-fn apps(alloc: Global, version: Version, value: &Value) -> Result<Option<Items<WrittenApp>>, NoMemory>
+fn apps(
+    alloc: Global,
+    version: Version,
+    value: &Value,
+) -> Result<Option<Items<WrittenApp>>, NoMemory>
     ensures { IfOk result (λ found. found ≡ apps_of version (view value.now)) }
 {
     match array(value) {
@@ -185,7 +197,11 @@ fn apps(alloc: Global, version: Version, value: &Value) -> Result<Option<Items<W
     }
 }
 
-fn apps_at(alloc: Global, version: Version, value: &Value) -> Result<Option<Items<WrittenApp>>, NoMemory>
+fn apps_at(
+    alloc: Global,
+    version: Version,
+    value: &Value,
+) -> Result<Option<Items<WrittenApp>>, NoMemory>
     ensures { IfOk result (λ found. found ≡ member_as (apps_of version) (codes "apps") (view value.now)) }
 {
     match member(value, "apps") {

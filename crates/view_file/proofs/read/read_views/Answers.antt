@@ -1,6 +1,6 @@
 use Rattle.std.proofs.Common.{sym, subst, ◌∙◌}
 use Rattle.std.proofs.lemmas.Result.{err_from_is_err_and}
-use Rattle.function_table.specs.Groups.{groups_of, is_function}
+use Rattle.function_table.specs.Groups.{is_function}
 use Rattle.view_file.specs.Fits.{all_written}
 use Rattle.view_file.specs.Least.{IsLeastUnknown}
 use Rattle.view_file.proofs.Leasts.{fails_read, listed_same, least_same, text_same}

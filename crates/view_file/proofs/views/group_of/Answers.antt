@@ -1,8 +1,7 @@
-use Rattle.std.proofs.Common.{◌≡◌, ◌<◌, Some, subst, sym, ◌∙◌}
+use Rattle.std.proofs.Common.{◌≡◌, ◌<◌, subst, sym, ◌∙◌}
 use Rattle.std.proofs.lemmas.Option.{none-some, same_Some}
 use Rattle.fc_numbers.specs.Spans.{text_size}
 use Rattle.guest_input.specs.Text.{flat_of}
-use Rattle.view_file.specs.Base.{group_of_start}
 use Rattle.view_file.proofs.Functions.{answered_group, answered_offset, function_below}
 use Rattle.view_file.proofs.views.group_of.Goals as goal
 
