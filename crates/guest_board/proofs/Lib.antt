@@ -7,3 +7,4 @@ pub mod Parts
 pub mod Started
 pub mod Ends
 pub mod Others
+pub mod Counting

@@ -7,3 +7,4 @@ pub mod SeenFacts
 pub mod First
 pub mod Housed
 pub mod Laws
+pub mod Counted
