@@ -8,3 +8,4 @@ pub mod Started
 pub mod Ends
 pub mod Others
 mod TestKernels
+pub mod Counting

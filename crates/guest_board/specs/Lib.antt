@@ -8,3 +8,4 @@ pub mod First
 pub mod OpenFacts
 pub mod Housed
 pub mod Laws
+pub mod Counted

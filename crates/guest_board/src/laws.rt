@@ -1,5 +1,6 @@
 //! What every step of the machine leaves as it is. Nothing here runs: each function has a law as its contract.
 
+ghost use Rattle.guest_board.specs.Counted.{StepsCountOne};
 ghost use Rattle.guest_board.specs.Laws.{StepsKeepText, EndsChangeNothing, StepsLeaveOthers};
 
 /// No step changes kernel text or the size of memory, and each page counts one more store at most.
@@ -18,4 +19,9 @@ pub fn ends_change_nothing()
 #[tactic(auto, using(crate::proofs::Others::leaves_others))]
 pub fn steps_leave_others()
     ensures { StepsLeaveOthers }
+{}
+
+/// A step keeps the number of vCPUs, and counts one step more of its own.
+pub fn steps_count_one()
+    ensures { StepsCountOne }
 {}

@@ -4,4 +4,5 @@ pub mod Ascending
 pub mod Missed
 pub mod Logged
 pub mod OneVcpu
+pub mod Growing
 pub mod Staying

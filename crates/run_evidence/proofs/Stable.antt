@@ -57,7 +57,7 @@ once-push e (x ∷ xs) once new =
     let rest : list_any (λ (y : LogEntry). y.group == e.group) xs ≡ false = grind (arith, nat_tests, new) in
     (grind (arith, common_steps, once.0, other), once-push e xs once.1 rest)
 
-or-weaken : (a b d : Bool) → (b ≡ true → d ≡ true) → (a || b) ≡ true → (a || d) ≡ true
+pub or-weaken : (a b d : Bool) → (b ≡ true → d ≡ true) → (a || b) ≡ true → (a || d) ≡ true
 or-weaken true b d f e = refl
 or-weaken false b d f e = f e
 

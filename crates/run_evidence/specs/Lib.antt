@@ -2,3 +2,4 @@ pub mod Config
 pub mod Evidence
 pub mod Misses
 pub mod Stays
+pub mod Growing

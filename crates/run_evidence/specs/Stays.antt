@@ -1,12 +1,12 @@
 -- What is evidence stays evidence: entries and fetches are looked at by a front part of the schedule alone.
-use Rattle.std.specs.Prelude.{◌≡◌, ℕ, true, List, [], ◌∷◌, ◌++◌}
+use Rattle.std.specs.Prelude.{◌≡◌, ℕ, true, List, ◌++◌}
 use Rattle.chain_log.specs.declared.entry.LogEntry.{LogEntry}
 use Rattle.run_evidence.specs.Config.{Config}
 use Rattle.run_evidence.specs.Evidence.{IsJustified, IsAllowed, is_logged, log_in}
 
--- an entry that is justified stays so when the schedule grows by a step
+-- an entry that is justified stays so when the schedule grows
 abbrev pub JustifiedStays : Type 0
-JustifiedStays = (c : Config) (schedule : List ℕ) (i : ℕ) (e : LogEntry) → IsJustified c schedule e → IsJustified c (schedule ++ i ∷ []) e
+JustifiedStays = (c : Config) (schedule later : List ℕ) (e : LogEntry) → IsJustified c schedule e → IsJustified c (schedule ++ later) e
 
 -- fetches that are allowed stay so when the logs have more
 abbrev pub AllowedStays : Type 0

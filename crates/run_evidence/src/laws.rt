@@ -1,5 +1,6 @@
-//! That evidence stays evidence. Nothing here runs: each function has a law as its contract.
+//! That evidence stays evidence, and what grows with a schedule. Nothing here runs: each function has a law as its contract.
 
+ghost use Rattle.run_evidence.specs.Growing.{BoardsMove, LawfulGrows, FrontsAreLawful, StoppedStays, AllowedIsFromStart, AllowedFromStays, AllowedFromGrows, AllowedJoins};
 ghost use Rattle.run_evidence.specs.Stays.{JustifiedStays, AllowedStays};
 
 /// An entry that is justified stays so when the schedule grows.
@@ -12,4 +13,50 @@ pub fn justified_entries_stay()
 #[tactic(auto, using(crate::proofs::Staying::allowed_stays))]
 pub fn allowed_fetches_stay()
     ensures { AllowedStays }
+{}
+
+/// One more step of the schedule is one step of the board.
+#[tactic(auto, using(crate::proofs::Growing::boards_move))]
+pub fn boards_move()
+    ensures { BoardsMove }
+{}
+
+/// A lawful schedule with one more step that exists is lawful.
+#[tactic(auto, using(crate::proofs::Growing::lawful_grows))]
+pub fn lawful_schedules_grow()
+    ensures { LawfulGrows }
+{}
+
+/// A front part of a lawful schedule is lawful.
+pub fn fronts_are_lawful()
+    ensures { FrontsAreLawful }
+{}
+
+/// A vCPU that may not step may not after further steps.
+#[tactic(auto, using(crate::proofs::Growing::stopped_stays))]
+pub fn stopped_vcpus_stay()
+    ensures { StoppedStays }
+{}
+
+/// All fetches are allowed exactly where those from step 0 on are.
+#[tactic(auto, using(crate::proofs::Growing::allowed_is_from_start))]
+pub fn allowed_is_from_the_start()
+    ensures { AllowedIsFromStart }
+{}
+
+/// Fetches that are allowed from a step on stay so when the logs grow.
+pub fn later_fetches_stay()
+    ensures { AllowedFromStays }
+{}
+
+/// Fetches that are allowed from a step on stay so after one more step whose fetch is allowed.
+#[tactic(auto, using(crate::proofs::Growing::allowed_from_grows))]
+pub fn later_fetches_grow()
+    ensures { AllowedFromGrows }
+{}
+
+/// All fetches are allowed where those of a front part are, and those after it.
+#[tactic(auto, using(crate::proofs::Growing::allowed_joins))]
+pub fn allowed_fetches_join()
+    ensures { AllowedJoins }
 {}

@@ -1,0 +1,128 @@
+-- Schedules and logs that grow at their ends.
+use Rattle.std.proofs.Common.{◌≡◌, ◌≢◌, ℕ, ◌+◌, ◌<◌, ◌≤◌, true, false, Bool, Some, List, [], ◌∷◌, ◌++◌, length, arith, refl, ◌∙◌, sym, ap, subst, append_assoc, length-append}
+use Rattle.std.specs.Prelude.{◌==◌, ◌&&◌, nat_le, nat_lt, is_none, slice_index}
+use Rattle.std.specs.List.{list_any}
+use Rattle.std.proofs.lemmas.List.{append-nil, take-append-le, get_or_append_left, get_or-set_other}
+use Rattle.std.proofs.Math.Seq.{get_or-append_seam}
+use mathlib.Core.Logic.{dite}
+use native.Mathlib.Decide.{dec_lt}
+use Rattle.chain_log.specs.declared.entry.LogEntry.{LogEntry}
+use Rattle.function_table.specs.Groups.{group_at}
+use Rattle.guest_board.specs.Board.{State, may, next_of, step_of, counted}
+use Rattle.guest_board.proofs.Counting.{steps_count_one}
+use Rattle.run_evidence.specs.Config.{Config, groups_in, is_base, full, full_at, IsLawful, view_in, view_at, fetched_at}
+use Rattle.run_evidence.specs.Evidence.{is_logged, is_open, log_in}
+use Rattle.run_evidence.specs.Growing.{Begins, BoardsMove, LawfulGrows, FrontsAreLawful, StoppedStays, AllowedIsFromStart, AllowedFromStays, AllowedFromGrows, AllowedJoins}
+use Rattle.run_evidence.specs.Stays.{JustifiedStays}
+use Rattle.run_evidence.proofs.Runs.{run_from-more, full_at-now, full_at-more, member-now, lawful-more}
+use Rattle.run_evidence.proofs.Stable.{or-weaken}
+
+-- what came before does not depend on what comes
+pub full_at-front : (c : Config) (schedule later : List ℕ) (t : ℕ) → t ≤ length schedule → full_at c (schedule ++ later) t ≡ full_at c schedule t
+full_at-front c schedule later t within = ap (λ x. full c x) (take-append-le t schedule later within)
+
+pub member-front : (schedule later : List ℕ) (t : ℕ) → t < length schedule → slice_index (schedule ++ later) t ≡ slice_index schedule t
+member-front schedule later t within = get_or_append_left schedule later 0 t within
+
+pub boards_move : BoardsMove
+boards_move c schedule i = ap (λ (s : State). record { steps = c.setup.steps; state = s; schedule = schedule ++ i ∷ [] }) (run_from-more c.setup.steps _ schedule i)
+
+pub lawful_grows : LawfulGrows
+lawful_grows = lawful-more
+
+pub fronts_are_lawful : FrontsAreLawful
+fronts_are_lawful c schedule later lawful t within =
+    let long : length (schedule ++ later) ≡ length schedule + length later = length-append schedule later in
+    let before : full_at c (schedule ++ later) t ≡ full_at c schedule t = full_at-front c schedule later t (omega (arith, within)) in
+    let same : slice_index (schedule ++ later) t ≡ slice_index schedule t = member-front schedule later t within in
+    rw (before, same) at (lawful t (omega (arith, within, long)))
+
+pub justified_later : JustifiedStays
+justified_later c schedule later e j =
+    let same : full_at c (schedule ++ later) e.at ≡ full_at c schedule e.at = full_at-front c schedule later e.at j.early in record {
+      early = let long = length-append schedule later in let early = j.early in omega arith;
+      may_step = rw same j.may_step;
+      next = rw same j.next;
+      view = rw same j.view;
+      group = j.group;
+      missing = j.missing;
+      chain = rw same j.chain;
+    }
+
+any_more : {X : Type 0} (f : X → Bool) (xs ys : List X) → list_any f xs ≡ true → list_any f (xs ++ ys) ≡ true
+any_more f [] ys e = absurd cc
+any_more f (x ∷ xs) ys e = or-weaken (f x) (list_any f xs) (list_any f (xs ++ ys)) (any_more f xs ys) e
+
+pub logged_more : (log more : List LogEntry) (t g : ℕ) → Begins log more → is_logged log t g ≡ true → is_logged more t g ≡ true
+logged_more log more t g b is =
+    let f : LogEntry → Bool = λ e. (e.group == g) && nat_le e.at t in
+    subst (λ (z : List LogEntry). list_any f z ≡ true) (sym b.1) (any_more f log b.0 is)
+
+pub allowed_from_stays : AllowedFromStays
+allowed_from_stays c schedule from logs more grown all t p low within next =
+    let v : ℕ = view_at c schedule t in let g : ℕ = group_at (groups_in c) p in
+    or-weaken (is_base c v g) (is_logged (log_in logs v) t g) (is_logged (log_in more v) t g) (logged_more (log_in logs v) (log_in more v) t g (grown v)) (all t p low within next)
+
+pub allowed_is_from_start : AllowedIsFromStart
+allowed_is_from_start c logs schedule = ((λ all t p low within next. all t p within next), λ all t p within next. all t p (omega arith) within next)
+
+-- a step of a front part fetches what it fetched there
+front_allowed : (c : Config) (schedule later : List ℕ) (logs : List (List LogEntry)) (t p : ℕ) → t < length schedule
+    → (fetched_at c schedule t ≡ Some p → is_open c logs (view_at c schedule t) t (group_at (groups_in c) p) ≡ true)
+    → fetched_at c (schedule ++ later) t ≡ Some p → is_open c logs (view_at c (schedule ++ later) t) t (group_at (groups_in c) p) ≡ true
+front_allowed c schedule later logs t p within all next =
+    let a : full_at c (schedule ++ later) t ≡ full_at c schedule t = full_at-front c schedule later t (omega (arith, within)) in
+    let b : slice_index (schedule ++ later) t ≡ slice_index schedule t = member-front schedule later t within in
+    let n : next_of (full_at c schedule t) (slice_index schedule t) ≡ Some p = rw (a, b) at next in
+    rw (a, b) (all n)
+
+pub allowed_joins : AllowedJoins
+allowed_joins c schedule later logs front all t p within next =
+    dite (dec_lt t (length schedule)) (λ old. front_allowed c schedule later logs t p old (λ n. front t p old n) next) (λ new. all t p (omega arith) within next)
+
+pub allowed_from_grows : AllowedFromGrows
+allowed_from_grows c schedule i from logs all new t p low within next =
+    let long : length (schedule ++ i ∷ []) ≡ length schedule + 1 = length-append schedule (i ∷ []) in
+    dite (dec_lt t (length schedule)) (λ old. front_allowed c schedule (i ∷ []) logs t p old (λ n. all t p low old n) next)
+    (λ late.
+    let last : t ≡ length schedule = omega (arith, within, long, late) in
+    let a : full_at c (schedule ++ i ∷ []) t ≡ full c schedule = full_at-more c schedule i t (omega (arith, last)) ∙ (ap (λ x. full_at c schedule x) last ∙ full_at-now c schedule) in
+    let b : slice_index (schedule ++ i ∷ []) t ≡ i = member-now schedule i t last in
+    let n : next_of (full c schedule) i ≡ Some p = rw (a, b) at next in
+    rw (a, b) (subst (λ x. is_open c logs (view_in c (full c schedule) i) x (group_at (groups_in c) p) ≡ true) (sym last) (new p n)))
+
+-- a vCPU that may not step
+middle : (a e d : Bool) → (a && e && d) ≡ true → e ≡ true
+middle true true d t = refl
+middle true false d t = absurd (let z : false ≡ true = t in cc)
+middle false e d t = absurd (let z : false ≡ true = t in cc)
+
+stuck_by : (a e d e' : Bool) → (a && e && d) ≡ false → e ≡ true → (a && e' && d) ≡ false
+stuck_by true true true e' t u = absurd (let z : true ≡ false = t in cc)
+stuck_by true true false true t u = refl
+stuck_by true true false false t u = refl
+stuck_by true false d e' t u = absurd (let z : false ≡ true = u in cc)
+stuck_by false e d e' t u = refl
+
+-- it may not after another vCPU's step
+stopped_step : (steps : ℕ) (s : State) (i j : ℕ) → may steps s i ≡ false → may steps s j ≡ true → may steps (step_of steps s j) i ≡ false
+stopped_step steps s i j stuck goes =
+    let apart : i ≢ j = λ q. let z : may steps s i ≡ true = subst (λ (k : ℕ). may steps s k ≡ true) (sym q) goes in let y : true ≡ false = sym z ∙ stuck in cc in
+    let open_end : is_none s.end ≡ true = middle (nat_lt j (length s.vcpus)) (is_none s.end) (nat_lt (slice_index s.counts j) steps) goes in
+    let long : length (step_of steps s j).vcpus ≡ length s.vcpus = (steps_count_one steps s j).0 in
+    let counts : (step_of steps s j).counts ≡ counted s.counts j = (steps_count_one steps s j).1 in
+    let count : slice_index (step_of steps s j).counts i ≡ slice_index s.counts i = ap (λ z. slice_index z i) counts ∙ get_or-set_other s.counts j i (slice_index s.counts j + 1) 0 apart in
+    (λ k. nat_lt i (long k) && is_none (step_of steps s j).end && nat_lt (count k) steps)
+    ∙ stuck_by (nat_lt i (length s.vcpus)) (is_none s.end) (nat_lt (slice_index s.counts i) steps) (is_none (step_of steps s j).end) stuck open_end
+
+pub stopped_stays : StoppedStays
+stopped_stays c schedule [] i stuck lawful = subst (λ z. may c.setup.steps (full c z) i ≡ false) (sym (append-nil schedule)) stuck
+stopped_stays c schedule (j ∷ later) i stuck lawful =
+    let long = length-append schedule (j ∷ later) in
+    let here = lawful (length schedule) (omega arith) in
+    let state : full_at c (schedule ++ j ∷ later) (length schedule) ≡ full c schedule = full_at-front c schedule (j ∷ later) (length schedule) (omega arith) ∙ full_at-now c schedule in
+    let who : slice_index (schedule ++ j ∷ later) (length schedule) ≡ j = get_or-append_seam schedule j later 0 in
+    let goes : may c.setup.steps (full c schedule) j ≡ true = subst (λ (k : ℕ). may c.setup.steps (full c schedule) k ≡ true) who (subst (λ (s : State). may c.setup.steps s (slice_index (schedule ++ j ∷ later) (length schedule)) ≡ true) state here) in
+    let next : may c.setup.steps (full c (schedule ++ j ∷ [])) i ≡ false = subst (λ (s : State). may c.setup.steps s i ≡ false) (sym (run_from-more c.setup.steps _ schedule j)) (stopped_step c.setup.steps (full c schedule) i j stuck goes) in
+    let whole : (schedule ++ j ∷ []) ++ later ≡ schedule ++ j ∷ later = append_assoc schedule (j ∷ []) later in
+    subst (λ z. may c.setup.steps (full c z) i ≡ false) whole (stopped_stays c (schedule ++ j ∷ []) later i next (subst (λ z. IsLawful c z) (sym whole) lawful))
