@@ -1,5 +1,5 @@
 -- What a store leaves as it was, and what it leaves as a store may find it.
-use Rattle.std.proofs.Common.{List, ◌^◌, ◌≡◌, ◌≢◌, ℕ, ◌+◌, ◌-◌, ◌%◌, ◌<◌, ◌≤◌, ◌⊎◌, inl, inr, true, false, length, get_or, arith, refl, get_or-set_other, length-set}
+use Rattle.std.proofs.Common.{List, [], ◌∷◌, ◌^◌, ◌≡◌, ◌≢◌, ℕ, ◌+◌, ◌-◌, ◌%◌, ◌<◌, ◌≤◌, ◌⊎◌, inl, inr, true, false, length, get_or, arith, refl, get_or-set_other, length-set}
 use Rattle.std.proofs.lemmas.Grind.{common_steps}
 use Rattle.std.proofs.lemmas.Bool.Decides.{nat_tests}
 use Rattle.fc_numbers.specs.declared.machine.Width.{Width}
@@ -8,6 +8,8 @@ use Rattle.guest_ram.specs.Value.{count_of}
 use Rattle.guest_ram.specs.Ram.{Ram, is_inside, is_text, frame_of, stamp_of, value, with_value, placed, zero_ram, IsLawful, IsLaid, AreStampsBelow}
 use Rattle.fc_numbers.specs.declared.places.Span.{Span}
 use Rattle.guest_ram.proofs.Parts.{length-bytes_low_first, length_overwritten, overwritten-before, overwritten-within, overwritten-after, value_at-same, value_at-replaced}
+use Rattle.fc_numbers.specs.Spans.{AreRangesFrom, in_text}
+use Rattle.fc_numbers.proofs.TextLaws.{places_above}
 use Rattle.guest_ram.proofs.Room.{room, before_edge}
 
 -- an aligned place of memory has its bytes in memory
@@ -47,12 +49,20 @@ with_value-other ram at width v k laid inside aligned other =
       | inr after ↦ grind (arith, overwritten-after, size, room, after)
     ]
 
+-- the place p stands in one of these ranges, and the bytes of an aligned place outside them do not
+apart : (ss : List Span) (n at : ℕ) (width : Width) (p : ℕ) → AreRangesFrom n ss → at % count_of width ≡ 0 → in_text ss at ≡ false → in_text ss p ≡ true → (p < at) ⊎ (at + count_of width ≤ p)
+apart [] n at width p ranges aligned free text = absurd (cc)
+apart (s ∷ ss) n at width p ranges aligned free text =
+    let edge = before_edge width at s.start aligned ranges.2 in
+    let others = apart ss (s.end + 4096) at width p ranges.4 aligned in
+    grind (arith, nat_tests, edge, others)
+
 -- the place p stands in text, and the bytes of an aligned place outside text do not
 outside_text : (ram : Ram) (at : ℕ) (width : Width) (p : ℕ) → IsLaid ram → is_inside ram at ≡ true → at % count_of width ≡ 0 → is_text ram at ≡ false → is_text ram p ≡ true → (p - RAM_START < at - RAM_START) ⊎ (at - RAM_START + count_of width ≤ p - RAM_START)
 outside_text ram at width p laid inside aligned free text =
-    let edge = before_edge width at ram.text.start aligned laid.lawful.first_page in
-    let low = laid.lawful.low in
-    grind (arith, nat_tests, edge, low)
+    let apart = apart ram.text RAM_START at width p laid.lawful.text.ranges aligned free text in
+    let low = places_above ram.text RAM_START p laid.lawful.text.ranges text in
+    grind (arith, nat_tests, apart, low)
 
 -- a byte of the kernel's text
 pub with_value-text_byte : (ram : Ram) (at : ℕ) (width : Width) (v p : ℕ) → IsLaid ram → is_inside ram at ≡ true → at % count_of width ≡ 0 → is_text ram at ≡ false → is_text ram p ≡ true → get_or (with_value ram at width v).bytes (p - RAM_START) 0 ≡ get_or ram.bytes (p - RAM_START) 0
@@ -124,8 +134,8 @@ placed-other ram at part k low high other =
       | inr after ↦ overwritten-after ram.bytes (at - RAM_START) part k (omega arith) after
     ]
 
-pub zero_ram_is_laid : (size : ℕ) (text : Span) → IsLawful size text → IsLaid (zero_ram size text)
+pub zero_ram_is_laid : (size : ℕ) (text : List Span) → IsLawful size text → IsLaid (zero_ram size text)
 zero_ram_is_laid size text lawful = record { lawful = grind (arith, common_steps, lawful); frames = grind (arith, common_steps, lawful.pages) }
 
-pub zero_ram_stamps : (size : ℕ) (text : Span) → AreStampsBelow (zero_ram size text) 1
+pub zero_ram_stamps : (size : ℕ) (text : List Span) → AreStampsBelow (zero_ram size text) 1
 zero_ram_stamps size text frame = grind (arith, common_steps)

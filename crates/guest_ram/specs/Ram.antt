@@ -4,19 +4,20 @@ use Rattle.std.specs.Prelude.{◌≡◌, ℕ, ◌+◌, ◌-◌, ◌*◌, ◌/◌
 use Rattle.fc_numbers.specs.declared.machine.Width.{Width}
 use Rattle.fc_numbers.specs.declared.places.Span.{Span}
 use Rattle.fc_numbers.specs.declared.places.TheConstants.{RAM_START, RAM_MOST, PAGE}
+use Rattle.fc_numbers.specs.Spans.{IsTextBelow, in_text}
 use Rattle.guest_ram.specs.declared.OutsideRam.{OutsideRam}
 use Rattle.guest_ram.specs.Value.{value_at, overwritten, replaced, count_of}
 
 pub record Ram : Type 0 where
   pub bytes : List ℕ
-  pub text : Span
+  pub text : List Span
   pub stamps : List ℕ
 
 abbrev pub is_inside : Ram → ℕ → Bool
 is_inside ram at = nat_le RAM_START at && nat_lt (at - RAM_START) (length ram.bytes)
 
 abbrev pub is_text : Ram → ℕ → Bool
-is_text ram at = nat_le ram.text.start at && nat_lt at ram.text.end
+is_text ram at = in_text ram.text at
 
 -- the number of the page that a place of RAM is in
 abbrev pub frame_of : ℕ → ℕ
@@ -64,19 +65,15 @@ placed ram at part = record {
 }
 
 -- memory before anything was put into it
-abbrev pub zero_ram : ℕ → Span → Ram
+abbrev pub zero_ram : ℕ → List Span → Ram
 zero_ram size text = record { bytes = replicate size 0; text = text; stamps = replicate (size / PAGE) 0 }
 
--- the sizes and places that a guest's memory may have
-pub record IsLawful (size : ℕ) (text : Span) : Type 0 where
+-- the size that a guest's memory may have, and the text that may stand in it
+pub record IsLawful (size : ℕ) (spans : List Span) : Type 0 where
   pub least : PAGE ≤ size
   pub most : size ≤ RAM_MOST
   pub pages : size % PAGE ≡ 0
-  pub low : RAM_START ≤ text.start
-  pub order : text.start ≤ text.end
-  pub high : text.end ≤ RAM_START + size
-  pub first_page : text.start % PAGE ≡ 0
-  pub last_page : text.end % PAGE ≡ 0
+  pub text : IsTextBelow (RAM_START + size) spans
 
 -- how a memory is laid out: lawfully, with one count of stores for each page
 pub record IsLaid (ram : Ram) : Type 0 where

@@ -1,6 +1,6 @@
 //! Numbers in a slice of bytes, the lowest byte first. Each access of a width known here is one machine access.
 
-ghost use Rattle.std.specs.Prelude.{◌≡◌, ◌≤◌, ◌<◌, ◌+◌, ◌^◌, length};
+ghost use Rattle.std.specs.Prelude.{◌≡◌, ◌≤◌, ◌<◌, ◌+◌, ◌^◌, length, replicate};
 ghost use Rattle.guest_ram.specs.Value.{value_at, overwritten, replaced, count_of};
 
 use fc_numbers::machine::Width;
@@ -74,6 +74,15 @@ pub(crate) fn overwrite(bytes: &mut [u8], at: usize, part: &[u8])
     ensures { bytes.new ≡ overwritten bytes.old at part.now }
 {
     bytes[at..at + part.len()].copy_from_slice(part);
+}
+
+/// Puts zeros in place of `count` bytes from `at` on.
+#[tactic(auto, unfolding(crate::specs::Value::overwritten))]
+pub(crate) fn clear(bytes: &mut [u8], at: usize, count: usize)
+    requires { at + count ≤ length bytes.old }
+    ensures { bytes.new ≡ overwritten bytes.old at (replicate count 0) }
+{
+    bytes[at..at + count].fill(0);
 }
 
 /// Puts the low bytes of `v` in place of the `width` bytes from `at` on.

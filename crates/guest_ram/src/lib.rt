@@ -11,7 +11,7 @@
 //! address, and knows of no view: views have pages of their own.
 #![tactic(auto)]
 
-ghost use Rattle.std.specs.Prelude.{◌≡◌, ◌≤◌, ◌<◌, ◌+◌, ◌-◌, ◌%◌, ◌^◌, length, true, false, IfOk, MatchOption};
+ghost use Rattle.std.specs.Prelude.{◌≡◌, ◌≤◌, ◌<◌, ◌+◌, ◌-◌, ◌%◌, ◌^◌, length, replicate, true, false, IfOk, MatchOption};
 ghost use Rattle.fc_numbers.specs.declared.machine.Width.TheVariants.{Halfword};
 ghost use Rattle.guest_ram.specs.Value.{count_of};
 ghost use Rattle.guest_ram.specs.Ram.{is_inside, is_text, frame_of, stamp_of, loaded, stored, store_answer, value, placed, zero_ram, IsLaid, IsLawful, CanStore};
@@ -19,6 +19,7 @@ ghost use Rattle.guest_ram.specs.Ram.{is_inside, is_text, frame_of, stamp_of, lo
 use fc_numbers::machine::Width;
 use fc_numbers::memory::NoMemory;
 use fc_numbers::places::{Gpa, PAGE, RAM_MOST, RAM_START, Span};
+use fc_numbers::spans::{self, Spans};
 use std::alloc::Global;
 use std::marker::Model;
 
@@ -32,11 +33,11 @@ pub use bytes::count;
 #[derive(Debug, Clone, Copy, PartialEq, Eq)]
 pub struct OutsideRam;
 
-/// The guest's memory. In contracts it is its bytes, the span of the kernel's text, and a stamp for each page.
+/// The guest's memory. In contracts it is its bytes, the ranges of the kernel's text, and a stamp for each page.
 #[derive(Drop)]
 pub struct GuestRam {
     bytes: Vec<u8>,
-    text: Span,
+    text: Spans,
     stamps: Vec<u32>,
 }
 
@@ -55,9 +56,9 @@ impl Model for GuestRam {
 impl GuestRam {
     /// Memory of so many bytes, all zero, with the kernel's text at these places.
     #[tactic(auto, using(crate::proofs::Parts::nothing_stored))]
-    pub fn new(alloc: Global, bytes: u64, text: Span) -> Result<GuestRam, NoMemory>
-        requires { IsLawful bytes text }
-        ensures zeros { IfOk result (λ ram. ram ≡ zero_ram bytes text) }
+    pub fn new(alloc: Global, bytes: u64, text: Spans) -> Result<GuestRam, NoMemory>
+        requires { IsLawful bytes text.items }
+        ensures zeros { IfOk result (λ ram. ram ≡ zero_ram bytes text.items) }
         ensures fresh { IfOk result CanStore }
     {
         let stamps = vec![in alloc; 0u32; (bytes / PAGE) as usize]?;
@@ -82,12 +83,25 @@ impl GuestRam {
         bytes::overwrite(&mut self.bytes, (at.0 - RAM_START) as usize, bytes);
     }
 
-    /// The places of the kernel's text.
-    pub fn text(&self) -> Span
-        ensures value { result ≡ self.now.text }
+    /// Puts so many zero bytes down before the guest runs, in text too. No stamp changes.
+    #[tactic(auto, using(crate::proofs::Parts::length_overwritten), unfolding(crate::specs::Ram::placed))]
+    pub fn place_zeros(&mut self, at: Gpa, count: u64)
+        requires low { RAM_START ≤ at }
+        requires high { at + count ≤ RAM_START + length self.old.bytes }
+        ensures after { self.new ≡ placed self.old at (replicate count 0) }
+        ensures len { length self.new.bytes ≡ length self.old.bytes }
+        ensures text { self.new.text ≡ self.old.text }
+        ensures stamps { self.new.stamps ≡ self.old.stamps }
+    {
+        bytes::clear(&mut self.bytes, (at.0 - RAM_START) as usize, count as usize);
+    }
+
+    /// The ranges of the kernel's text, in order of place.
+    pub fn text(&self) -> &[Span]
+        ensures value { result.now ≡ self.now.text }
         ensures laid { IsLaid self.now }
     {
-        self.text
+        self.text.as_slice()
     }
 
     /// The places of memory.
@@ -113,7 +127,7 @@ impl GuestRam {
     pub fn in_text(&self, at: Gpa) -> bool
         ensures { result ≡ is_text self.now at }
     {
-        self.text.contains(at)
+        spans::in_text(self.text.as_slice(), at)
     }
 
     /// Whether the place is one of memory.

@@ -6,24 +6,31 @@ ghost use Rattle.guest_ram.specs.Ram.{CanStore};
 use super::*;
 use std::test::Fail;
 
-/// Three pages, of which the middle one is the kernel's text.
-const SIZE: u64 = 3 * PAGE;
+/// Five pages, of which the second and the fourth are the kernel's text.
+const SIZE: u64 = 5 * PAGE;
 
 const END: u64 = RAM_START + SIZE;
 
 const TEXT: u64 = RAM_START + PAGE;
+
+const SECOND_TEXT: u64 = RAM_START + 3 * PAGE;
 
 /// The first and the last eight bytes of `marked_memory`.
 const MARKS: u64 = 0xa8a7_a6a5_a4a3_a2a1;
 
 /// Memory whose first and last eight bytes are 0xA1 to 0xA8.
 fn marked_memory(alloc: Global) -> Result<GuestRam, NoMemory>
-    ensures { IfOk result (λ ram. CanStore ram × (length ram.stamps ≡ 3)) }
+    ensures { IfOk result (λ ram. CanStore ram × (length ram.stamps ≡ 5)) }
 {
-    let text = Span {
+    let mut text = Spans::new();
+    text.push(Span {
         start: Gpa(TEXT),
         end: Gpa(TEXT + PAGE),
-    };
+    });
+    text.push(Span {
+        start: Gpa(SECOND_TEXT),
+        end: Gpa(SECOND_TEXT + PAGE),
+    });
     let marks = [0xa1, 0xa2, 0xa3, 0xa4, 0xa5, 0xa6, 0xa7, 0xa8];
     let mut ram = GuestRam::new(alloc, SIZE, text)?;
     ram.place(Gpa(RAM_START), &marks);
@@ -160,10 +167,40 @@ fn store_writes_its_bytes_and_counts_on_its_page(rt: HostRuntime) -> Result<(), 
             Ok(last),
             "after {at:#x}"
         );
-        for (frame, stamp) in [(0, stamps[0]), (1, stamps[1]), (2, stamps[2])] {
-            assert!(rt; frame < 3);
+        for (frame, stamp) in [(0, stamps[0]), (2, stamps[1]), (4, stamps[2])] {
+            assert!(rt; frame < 5);
             assert_eq!(rt; ram.frame_stamp(frame), stamp, "after {at:#x}");
         }
     }
+    Ok(())
+}
+
+#[test]
+fn each_range_is_text_and_the_page_between_is_none(rt: HostRuntime) -> Result<(), Fail> {
+    let ram = marked_memory(rt.alloc())?;
+    for (at, text) in [
+        (TEXT - 1, false),
+        (TEXT, true),
+        (TEXT + PAGE - 1, true),
+        (TEXT + PAGE, false),
+        (SECOND_TEXT - 1, false),
+        (SECOND_TEXT, true),
+        (SECOND_TEXT + PAGE - 1, true),
+        (SECOND_TEXT + PAGE, false),
+    ] {
+        assert_eq!(rt; ram.in_text(Gpa(at)), text, "at {at:#x}");
+    }
+    assert_eq!(rt; ram.text().len(), 2);
+    Ok(())
+}
+
+#[test]
+fn zeros_are_placed_and_nothing_beside_them(rt: HostRuntime) -> Result<(), Fail> {
+    let mut ram = marked_memory(rt.alloc())?;
+    ram.place_zeros(Gpa(RAM_START + 2), 3);
+    assert_eq!(rt;
+        ram.load(Gpa(RAM_START), Width::Doubleword),
+        Ok(0xa8a7_a600_0000_a2a1)
+    );
     Ok(())
 }

@@ -5,6 +5,7 @@ ghost use Rattle.std.specs.Prelude.{◌≡◌, IfOk, length};
 use super::*;
 use fc_numbers::memory::NoMemory;
 use fc_numbers::places::{RAM_START, Span};
+use fc_numbers::spans::Spans;
 use std::alloc::Global;
 use std::test::Fail;
 
@@ -54,10 +55,11 @@ const PAGES: [(u64, Walked); 3] = [
 fn empty_memory(alloc: Global) -> Result<GuestRam, NoMemory>
     ensures { IfOk result (λ ram. length ram.bytes ≡ 20480) }
 {
-    let text = Span {
+    let mut text = Spans::new();
+    text.push(Span {
         start: Gpa(TEXT),
         end: Gpa(TEXT + PAGE),
-    };
+    });
     GuestRam::new(alloc, SIZE, text)
 }
 
