@@ -1,7 +1,7 @@
 //! The computed answer of a translation and the sequence of entries that the manual reads. Nothing here runs: each
 //! function has a law as its contract.
 
-ghost use Rattle.sv39_walk.specs.Laws.{OneTranslation, WalkedIsTranslation};
+ghost use Rattle.sv39_walk.specs.Laws.{NewCachesFit, OneTranslation, StoresKeepFits, WalkedIsTranslation};
 
 /// The computed answer is that of a sequence of entries, each in the table that the one before names.
 #[tactic(auto, using(crate::proofs::Sequence::walked_is_translation))]
@@ -13,4 +13,16 @@ pub fn walked_is_translation()
 #[tactic(auto, using(crate::proofs::Sequence::one_translation))]
 pub fn one_translation()
     ensures { OneTranslation }
+{}
+
+/// A cache that keeps nothing fits every memory.
+#[tactic(auto, using(crate::proofs::Fitting::empty_fits))]
+pub fn new_caches_fit()
+    ensures { NewCachesFit }
+{}
+
+/// A store keeps the fit of every cache.
+#[tactic(auto, using(crate::proofs::Fitting::stored_fits))]
+pub fn stores_keep_fits()
+    ensures { StoresKeepFits }
 {}

@@ -25,13 +25,15 @@ use page_table::{
     LEVELS_MOST, MODE_BARE, PPN_COUNT, PTE_SIZE, is_leaf, levels_of, mode_of, page_number,
 };
 
+pub mod cache;
 mod entry;
 pub mod laws;
+mod reads;
 #[cfg(test)]
 mod tests;
 
 /// What a translation is asked for.
-#[derive(Clone, Copy)]
+#[derive(Debug, Clone, Copy, PartialEq, Eq)]
 pub struct Asked {
     pub mode: Mode,
     /// SUM of sstatus: supervisor mode may load from and store to user pages.
@@ -56,7 +58,7 @@ pub enum Walked {
 }
 
 /// The entry at this place, or the answer of a walk that cannot read it.
-fn read_entry(ram: &GuestRam, at: Gpa) -> Result<u64, Walked>
+pub(crate) fn read_entry(ram: &GuestRam, at: Gpa) -> Result<u64, Walked>
     requires { at % 8 ≡ 0 }
     ensures { result ≡ entry_read ram.now at }
 {
@@ -68,7 +70,7 @@ fn read_entry(ram: &GuestRam, at: Gpa) -> Result<u64, Walked>
 }
 
 /// The number of the entry for the address in a table of the level.
-fn index(va: Va, level: u64) -> u64
+pub(crate) fn index(va: Va, level: u64) -> u64
     requires { level < LEVELS_MOST }
     ensures value { result ≡ index_at level va }
     ensures low { result < 512 }
@@ -111,7 +113,7 @@ fn descend(ram: &GuestRam, q: &Asked, levels: u64, table: u64) -> Walked
 }
 
 /// Whether tables of so many levels map the address.
-fn is_canonical(levels: u64, va: Va) -> bool
+pub(crate) fn is_canonical(levels: u64, va: Va) -> bool
     requires some { 3 ≤ levels }
     requires most { levels ≤ LEVELS_MOST }
     ensures { result ≡ is_canonical levels va }
@@ -120,7 +122,7 @@ fn is_canonical(levels: u64, va: Va) -> bool
 }
 
 #[tactic(auto, unfolding(crate::specs::Walk::walked))]
-fn translate(ram: &GuestRam, satp: u64, q: &Asked) -> Walked
+pub(crate) fn translate(ram: &GuestRam, satp: u64, q: &Asked) -> Walked
     ensures value { result ≡ walked ram.now satp q.now }
     ensures low { KeepsLow q.now.va result }
 {
