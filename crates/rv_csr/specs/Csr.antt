@@ -4,7 +4,9 @@ use Rattle.std.specs.Prelude.{ℕ, ◌+◌, ◌-◌, ◌*◌, ◌/◌, ◌%◌, 
 use Rattle.fc_numbers.specs.declared.machine.Mode.{Mode}
 use Rattle.fc_numbers.specs.declared.machine.Mode.TheVariants.{Vu, Vs}
 use Rattle.rv_csr.specs.declared.Illegal.{Illegal}
-use Rattle.rv_csr.specs.declared.TheConstants.{SSTATUS, SIE, STVEC, SCOUNTEREN, SSCRATCH, SEPC, SCAUSE, STVAL, SIP, SATP, TIME, STATUS_SIE, STATUS_SPIE, STATUS_SPP, STATUS_SUM, STATUS_MXR, STATUS_UXL, INTERRUPTS, COUNTER_TIME, SATP_SV39}
+use Rattle.rv_csr.specs.declared.TheConstants.{SSTATUS, SIE, STVEC, SCOUNTEREN, SSCRATCH, SEPC, SCAUSE, STVAL, SIP, SATP, TIME, STATUS_SIE, STATUS_SPIE, STATUS_SPP, STATUS_SUM, STATUS_MXR, STATUS_UXL, INTERRUPTS, COUNTER_TIME, TIME_BIT}
+use Rattle.page_table.specs.declared.TheConstants.{MODE_BARE, MODE_SV39, MODE_SV48}
+use Rattle.page_table.specs.Mode.{satp_mode}
 use Rattle.rv_csr.specs.Csrs.{Csrs}
 
 abbrev pub is_set : ℕ → ℕ → Bool
@@ -24,30 +26,34 @@ fresh = record { sstatus = 2 * 2 ^ 32; sie = 0; stvec = 0; scounteren = 0; sscra
 abbrev pub sstatus_bits : ℕ → ℕ
 sstatus_bits v = bit_or (bit_and v (STATUS_SIE + STATUS_SPIE + STATUS_SPP + STATUS_SUM + STATUS_MXR)) STATUS_UXL
 
--- Bare keeps nothing, Sv39 keeps MODE and PPN, and another MODE leaves the old value
+-- MODE, bits 63 to 60, and PPN, bits 43 to 0
+abbrev pub satp_bits : ℕ → ℕ
+satp_bits v = satp_mode v * 2 ^ 60 + v % 2 ^ 44
+
+-- Bare keeps nothing, Sv39 and Sv48 keep MODE and PPN, and another MODE leaves the old value
 abbrev pub satp_after : ℕ → ℕ → ℕ
 satp_after old v =
-    if v / 2 ^ 60 == 0 then 0
-    else if v / 2 ^ 60 == 8 then SATP_SV39 + v % 2 ^ 44
+    if satp_mode v == MODE_BARE then 0
+    else if satp_mode v == MODE_SV39 || satp_mode v == MODE_SV48 then satp_bits v
     else old
 
 -- user mode may name `time` alone, where scounteren lets it
 abbrev pub may_access : Csrs → ℕ → Mode → Bool
 may_access csr n Vs = true
-may_access csr n Vu = nat_eq n TIME && is_set csr.scounteren 1
+may_access csr n Vu = nat_eq n TIME && is_set csr.scounteren TIME_BIT
 
 abbrev pub read_row : Csrs → ℕ → ℕ → ℕ → Result ℕ Illegal
 read_row csr n clock lines =
-    if n == SSTATUS then Ok csr.sstatus
-    else if n == SIE then Ok csr.sie
+    if n == SSTATUS then Ok (sstatus_bits csr.sstatus)
+    else if n == SIE then Ok (bit_and csr.sie INTERRUPTS)
     else if n == STVEC then Ok csr.stvec
-    else if n == SCOUNTEREN then Ok csr.scounteren
+    else if n == SCOUNTEREN then Ok (bit_and csr.scounteren COUNTER_TIME)
     else if n == SSCRATCH then Ok csr.sscratch
     else if n == SEPC then Ok csr.sepc
     else if n == SCAUSE then Ok csr.scause
     else if n == STVAL then Ok csr.stval
     else if n == SIP then Ok lines
-    else if n == SATP then Ok csr.satp
+    else if n == SATP then Ok (satp_bits csr.satp)
     else if n == TIME then Ok clock
     else Err illegal
 

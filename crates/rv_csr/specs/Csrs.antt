@@ -1,6 +1,5 @@
--- The registers as contracts see them, and the modes of address translation that satp may have.
--- MODE is bits 63 to 60 of satp: 0 is Bare and 8 is Sv39 (privileged manual, "Supervisor Address Translation and Protection").
-use Rattle.std.specs.Prelude.{ℕ, ◌/◌, ◌^◌, Bool, ◌||◌, nat_eq}
+-- The registers as contracts see them (privileged manual, "Supervisor CSRs").
+use Rattle.std.specs.Prelude.{ℕ}
 
 pub record Csrs : Type 0 where
   pub sstatus : ℕ
@@ -12,6 +11,3 @@ pub record Csrs : Type 0 where
   pub scause : ℕ
   pub stval : ℕ
   pub satp : ℕ
-
-abbrev pub has_mode : ℕ → Bool
-has_mode satp = nat_eq (satp / 2 ^ 60) 0 || nat_eq (satp / 2 ^ 60) 8

@@ -2,7 +2,7 @@
 //!
 //! [`CsrFile`] holds the nine registers that keep a value; `sip` and `time` are read from the lines and the clock that
 //! the caller hands in. [`CsrFile::read`] and [`CsrFile::write`] answer exactly by the table of `specs/Csr.antt`, and
-//! the address-translation mode in `satp` is always Bare or Sv39. The registers and their fields are those of the
+//! the address-translation mode in `satp` is always Bare, Sv39 or Sv48. The registers and their fields are those of the
 //! privileged RISC-V manual, "Supervisor-Level ISA"; which of their bits a write keeps is this project's choice.
 //!
 //! Below stands `fc_numbers`, for privilege modes. `trap_unit` and the crates that translate addresses and execute
@@ -10,10 +10,12 @@
 #![tactic(auto)]
 
 ghost use Rattle.std.specs.Prelude.{◌≡◌, ◌+◌, ◌-◌, ◌*◌, ◌/◌, ◌%◌, ◌^◌, ◌<◌, true};
-ghost use Rattle.rv_csr.specs.Csrs.{has_mode};
-ghost use Rattle.rv_csr.specs.Csr.{fresh, csr_read, csr_write, csr_wrote, is_set, may_access, satp_after};
+ghost use Rattle.rv_csr.specs.declared.TheConstants.{MXR_BIT, SUM_BIT};
+ghost use Rattle.page_table.specs.Mode.{has_mode};
+ghost use Rattle.rv_csr.specs.Csr.{fresh, csr_read, csr_write, csr_wrote, is_set, may_access, satp_after, satp_bits};
 
 use fc_numbers::machine::Mode;
+use page_table::{MODE_BARE, MODE_SHIFT, MODE_SV39, MODE_SV48, PPN_COUNT, mode_of};
 use std::marker::Model;
 
 /// The number of `sstatus`.
@@ -58,8 +60,18 @@ pub const STATUS_KEPT: u64 = 0xc_0122;
 pub const INTERRUPTS: u64 = 0x222;
 /// scounteren.TM: user mode may read `time`.
 pub const COUNTER_TIME: u64 = 0x2;
-/// satp with MODE 8, Sv39, and PPN 0.
-pub const SATP_SV39: u64 = 0x8000_0000_0000_0000;
+/// The bit of sstatus that is SIE.
+pub const SIE_BIT: u32 = 1;
+/// The bit of sstatus that is SPIE.
+pub const SPIE_BIT: u32 = 5;
+/// The bit of sstatus that is SPP.
+pub const SPP_BIT: u32 = 8;
+/// The bit of sstatus that is SUM.
+pub const SUM_BIT: u32 = 18;
+/// The bit of sstatus that is MXR.
+pub const MXR_BIT: u32 = 19;
+/// The bit of scounteren that is TM.
+pub const TIME_BIT: u32 = 1;
 
 /// The registers that keep a value. In contracts they are the record of the nine numbers.
 #[derive(Debug, Clone, Copy, PartialEq, Eq)]
@@ -86,7 +98,8 @@ pub struct CsrFile {
 
 impl Model for CsrFile {
     ghost use Rattle.std.specs.Prelude.{◌≡◌, true};
-    ghost use Rattle.rv_csr.specs.Csrs.{Csrs, has_mode};
+    ghost use Rattle.page_table.specs.Mode.{has_mode};
+    ghost use Rattle.rv_csr.specs.Csrs.{Csrs};
 
     ghost Value = { Csrs };
 
@@ -115,8 +128,15 @@ fn may_name(csr: &CsrFile, n: u16, mode: Mode) -> bool
 {
     match mode {
         Mode::Vs => true,
-        Mode::Vu => n == TIME && has_bit(csr.scounteren, 1),
+        Mode::Vu => n == TIME && has_bit(csr.scounteren, TIME_BIT),
     }
+}
+
+/// MODE and PPN of a satp, and 0 elsewhere.
+fn satp_kept(v: u64) -> u64
+    ensures { result ≡ satp_bits v }
+{
+    (mode_of(v) << MODE_SHIFT) + v % PPN_COUNT
 }
 
 /// What satp holds after a write of v.
@@ -125,9 +145,9 @@ fn satp_written(old: u64, v: u64) -> u64
     ensures value { result ≡ satp_after old v }
     ensures mode { has_mode result ≡ true }
 {
-    match v >> 60 {
-        0 => 0,
-        8 => SATP_SV39 + v % 0x1000_0000_0000,
+    match mode_of(v) {
+        MODE_BARE => 0,
+        MODE_SV39 | MODE_SV48 => satp_kept(v),
         _ => old,
     }
 }
@@ -150,6 +170,20 @@ impl CsrFile {
         }
     }
 
+    /// SUM of sstatus: whether supervisor mode may load from and store to pages of user mode.
+    pub fn sum(&self) -> bool
+        ensures { result ≡ is_set self.now.sstatus SUM_BIT }
+    {
+        has_bit(self.sstatus, SUM_BIT)
+    }
+
+    /// MXR of sstatus: whether pages that may be executed may be loaded from.
+    pub fn mxr(&self) -> bool
+        ensures { result ≡ is_set self.now.sstatus MXR_BIT }
+    {
+        has_bit(self.sstatus, MXR_BIT)
+    }
+
     /// What the mode reads in register n at this clock, where the interrupt lines are `lines`.
     pub fn read(&self, n: u16, mode: Mode, clock: u64, lines: u64) -> Result<u64, Illegal>
         ensures { result ≡ csr_read self.now n mode clock lines }
@@ -158,16 +192,16 @@ impl CsrFile {
             return Err(Illegal);
         }
         match n {
-            SSTATUS => Ok(self.sstatus),
-            SIE => Ok(self.sie),
+            SSTATUS => Ok((self.sstatus & STATUS_KEPT) | STATUS_UXL),
+            SIE => Ok(self.sie & INTERRUPTS),
             STVEC => Ok(self.stvec),
-            SCOUNTEREN => Ok(self.scounteren),
+            SCOUNTEREN => Ok(self.scounteren & COUNTER_TIME),
             SSCRATCH => Ok(self.sscratch),
             SEPC => Ok(self.sepc),
             SCAUSE => Ok(self.scause),
             STVAL => Ok(self.stval),
             SIP => Ok(lines),
-            SATP => Ok(self.satp),
+            SATP => Ok(satp_kept(self.satp)),
             TIME => Ok(clock),
             _ => Err(Illegal),
         }
@@ -256,11 +290,13 @@ mod tests {
     }
 
     #[test]
-    fn satp_keeps_bare_and_sv39_alone(rt: HostRuntime) {
+    fn satp_keeps_bare_sv39_and_sv48_alone(rt: HostRuntime) {
         let mut csr = CsrFile::new();
         for (v, want) in [
             (0x8fff_ffff_ffff_fff5, 0x8000_0fff_ffff_fff5),
-            (0x9000_0000_0000_0001, 0x8000_0fff_ffff_fff5),
+            (0xa000_0000_0000_0001, 0x8000_0fff_ffff_fff5),
+            (0x9ff0_0000_0000_0001, 0x9000_0000_0000_0001),
+            (0x7000_0000_0000_0001, 0x9000_0000_0000_0001),
             (0x8000_0000_0000_0001, 0x8000_0000_0000_0001),
             (0x0000_0000_0000_0007, 0),
             (0xf000_0000_0000_0001, 0),

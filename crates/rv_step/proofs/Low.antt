@@ -12,54 +12,12 @@ use Rattle.guest_ram.specs.Ram.{Ram, is_inside, is_text, value, IsLaid}
 use Rattle.sv39_walk.specs.declared.Asked.{Asked}
 use Rattle.sv39_walk.specs.declared.Walked.{Walked}
 use Rattle.sv39_walk.specs.declared.Walked.TheVariants.{At, PageFault, AccessFault, TableInText}
-use Rattle.sv39_walk.specs.Entry.{ppn, is_fault, page_at}
-use Rattle.guest_ram.specs.Ram.{value}
-use Rattle.fc_numbers.specs.declared.machine.Width.TheVariants.{Doubleword}
-use Rattle.sv39_walk.specs.Walk.{asked, leads_on, ends_in, entry_place, table_of, walk_from, walked, satp_mode, root_of, is_canonical, KeepsLow}
+use Rattle.sv39_walk.specs.Walk.{asked, walked, KeepsLow}
+use Rattle.sv39_walk.proofs.LowBits.{low_walked}
 use Rattle.rv_csr.specs.Csr.{is_set}
 use Rattle.rv_step.specs.declared.vcpu.Vcpu.{Vcpu}
 use Rattle.rv_step.specs.declared.resolve.Resolved.TheVariants as place
 use Rattle.rv_step.specs.Site.{resolved, resolve_walked, IsPlaced}
-
-low_of_sum : (p x y va : ℕ) → x ≡ y * 4096 + va % 4096 → (p * 4096 + x) % 4096 ≡ va % 4096
-low_of_sum p x y va e = omega arith
-
--- the place that a leaf makes of an address
-leaf_keeps_low : (p va level : ℕ) → (p * 4096 + va % page_at level) % 4096 ≡ va % 4096
-leaf_keeps_low p va level =
-    low_of_sum p (va % page_at level) (va / 2 ^ 12 % 2 ^ (9 * level)) va
-    (ap (λ k. va % 2 ^ k) (add_comm 12 (9 * level)) ∙ mod-pow-add va (9 * level) 12)
-
-choice_keeps_low : (va : ℕ) (b : Bool) (x y : Walked) → KeepsLow va x → KeepsLow va y → KeepsLow va (if b then x else y)
-choice_keeps_low va true x y hx hy = hx
-choice_keeps_low va false x y hx hy = hy
-
-ends_in_keeps_low : (ram : Ram) (q : Asked) (level at : ℕ) → KeepsLow q.va (ends_in ram q level at)
-unfolding ends_in
-ends_in_keeps_low ram q level at =
-    let bad = is_fault q level (value ram at Doubleword) in
-    let leaf : Walked = At (ppn (value ram at Doubleword) * 4096 + q.va % page_at level) in
-    let by_entry : Walked = if bad then PageFault else leaf in
-    let by_text : Walked = if is_text ram at then TableInText else by_entry in
-    choice_keeps_low q.va (not (is_inside ram at)) AccessFault by_text tt
-    (choice_keeps_low q.va (is_text ram at) TableInText by_entry tt
-    (choice_keeps_low q.va bad PageFault leaf tt (leaf_keeps_low (ppn (value ram at Doubleword)) q.va level)))
-
-walk_from_keeps_low : (ram : Ram) (q : Asked) (levels table : ℕ) → KeepsLow q.va (walk_from ram q levels table)
-unfolding walk_from
-walk_from_keeps_low ram q zero table = tt
-walk_from_keeps_low ram q (suc level) table =
-    let at = entry_place q level table in
-    choice_keeps_low q.va (leads_on ram q level at) (walk_from ram q level (table_of ram at)) (ends_in ram q level at)
-    (walk_from_keeps_low ram q level (table_of ram (entry_place q level table)))
-    (ends_in_keeps_low ram q level (entry_place q level table))
-
-pub walked_keeps_low : (ram : Ram) (satp : ℕ) (q : Asked) → KeepsLow q.va (walked ram satp q)
-unfolding walked
-walked_keeps_low ram satp q =
-    let by_table : Walked = if is_canonical q.va then walk_from ram q 3 (root_of satp) else PageFault in
-    choice_keeps_low q.va (satp_mode satp == 0) (At q.va) by_table refl
-    (choice_keeps_low q.va (is_canonical q.va) (walk_from ram q 3 (root_of satp)) PageFault (walk_from_keeps_low ram q 3 (root_of satp)) tt)
 
 pub text_is_inside : (ram : Ram) (p : ℕ) → IsLaid ram → is_text ram p ≡ true → is_inside ram p ≡ true
 text_is_inside ram p laid text =
@@ -95,4 +53,4 @@ pub resolved_is_placed : (v : Vcpu) (ram : Ram) (access : Access) (va : ℕ) →
 unfolding resolved
 resolved_is_placed v ram access va laid =
     let q = asked v.mode (is_set v.csr.sstatus 18) (is_set v.csr.sstatus 19) access va in
-    walked_is_placed ram va (walked ram v.csr.satp q) laid (walked_keeps_low ram v.csr.satp q)
+    walked_is_placed ram va (walked ram v.csr.satp q) laid (low_walked ram v.csr.satp q)

@@ -1,2 +1,7 @@
 pub mod Steps
 pub mod Sequence
+pub mod Same
+pub mod Fitting
+pub mod Noted
+pub mod ByPage
+pub mod LowBits

@@ -5,7 +5,8 @@ use Rattle.guest_ram.specs.Ram.{Ram}
 use Rattle.sv39_walk.specs.declared.Asked.{Asked}
 use Rattle.sv39_walk.specs.declared.Walked.{Walked}
 use Rattle.sv39_walk.specs.declared.Walked.TheVariants.{At, PageFault}
-use Rattle.sv39_walk.specs.Walk.{entry_place, leads_on, ends_in, table_of, walk_from, walked, satp_mode, root_of, is_canonical, IsWalk, IsTranslation}
+use Rattle.page_table.specs.Mode.{is_canonical, levels_of, satp_mode}
+use Rattle.sv39_walk.specs.Walk.{entry_place, leads_on, ends_in, table_of, walk_from, walked, root_of, IsWalk, IsTranslation}
 use Rattle.sv39_walk.proofs.Steps.{above_zero}
 
 -- the second number of a list stands first in its rest
@@ -112,6 +113,9 @@ is_walk_from ram q (suc level) table (e ∷ f ∷ rest) w walk =
     let next = is_walk_from ram q level (table_of ram e) (f ∷ rest) w (shorter ram q level table e f rest w walk) in
     rw (sym place) (rw leads next)
 
+some_levels : (satp : ℕ) → 0 < levels_of satp
+some_levels satp = grind (arith, nat_tests)
+
 -- the computed answer is that of a translation
 pub walked_is_translation : (ram : Ram) (satp : ℕ) (q : Asked) → IsTranslation ram satp q (walked ram satp q)
 unfolding walked
@@ -119,8 +123,8 @@ walked_is_translation ram satp q = record {
   bare = λ bare. grind (arith, nat_tests, bare);
   sign = λ paged sign. grind (arith, nat_tests, paged, sign);
   walk = λ paged sign.
-      (let same : walked ram satp q ≡ walk_from ram q 3 (root_of satp) = grind (arith, nat_tests, paged, sign) in
-      let entries = walk_from_is_walk ram q 3 (root_of satp) (omega arith) in
+      (let same : walked ram satp q ≡ walk_from ram q (levels_of satp) (root_of satp) = grind (arith, nat_tests, paged, sign) in
+      let entries = walk_from_is_walk ram q (levels_of satp) (root_of satp) (some_levels satp) in
       (entries.0, rw same entries.1));
 }
 
@@ -129,13 +133,13 @@ pub one_translation : (ram : Ram) (satp : ℕ) (q : Asked) (w : Walked) → IsTr
 unfolding walked
 one_translation ram satp q w is =
     elim (satp_mode satp == 0) as
-    (λ b. (satp_mode satp == 0) ≡ b → w ≡ (if b then At q.va else if is_canonical q.va then walk_from ram q 3 (root_of satp) else PageFault)) [
+    (λ b. (satp_mode satp == 0) ≡ b → w ≡ (if b then At q.va else if is_canonical (levels_of satp) q.va then walk_from ram q (levels_of satp) (root_of satp) else PageFault)) [
       | true ↦ λ bare. is.bare (grind (arith, nat_tests, bare))
       | false ↦ λ paged.
-          elim (is_canonical q.va) as
-          (λ b. is_canonical q.va ≡ b → w ≡ (if b then walk_from ram q 3 (root_of satp) else PageFault)) [
+          elim (is_canonical (levels_of satp) q.va) as
+          (λ b. is_canonical (levels_of satp) q.va ≡ b → w ≡ (if b then walk_from ram q (levels_of satp) (root_of satp) else PageFault)) [
             | true ↦ λ sign.
-                (let walk = is.walk (grind (arith, nat_tests, paged)) sign in is_walk_from ram q 3 (root_of satp) walk.0 w walk.1)
+                (let walk = is.walk (grind (arith, nat_tests, paged)) sign in is_walk_from ram q (levels_of satp) (root_of satp) walk.0 w walk.1)
             | false ↦ λ sign. is.sign (grind (arith, nat_tests, paged)) sign
           ]
           refl

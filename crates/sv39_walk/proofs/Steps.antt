@@ -6,7 +6,9 @@ use Rattle.guest_ram.specs.Ram.{Ram}
 use Rattle.sv39_walk.specs.declared.Asked.{Asked}
 use Rattle.sv39_walk.specs.declared.Walked.{Walked}
 use Rattle.sv39_walk.specs.declared.Walked.TheVariants.{At, PageFault}
-use Rattle.sv39_walk.specs.Entry.{ppn, is_leaf, is_fault, page_at}
+use Rattle.page_table.specs.Entry.{ppn, is_leaf}
+use Rattle.page_table.specs.Level.{page_size}
+use Rattle.sv39_walk.specs.Entry.{is_fault}
 use Rattle.sv39_walk.specs.Walk.{entry_place, entry_read, leads_on, ends_in, walk_from}
 
 pub unread : (ram : Ram) (q : Asked) (levels table at : ℕ) (w : Walked) → 0 < levels → at ≡ entry_place q (levels - 1) table → Err w ≡ entry_read ram at → w ≡ walk_from ram q levels table
@@ -19,7 +21,7 @@ unfolding walk_from ends_in
 faults ram q zero table at pte some place read fault = absurd (omega arith)
 faults ram q (suc level) table at pte some place read fault = grind (arith, common_steps, nat_tests)
 
-pub maps : (ram : Ram) (q : Asked) (levels table at pte : ℕ) → 0 < levels → at ≡ entry_place q (levels - 1) table → Ok pte ≡ entry_read ram at → false ≡ is_fault q (levels - 1) pte → true ≡ is_leaf pte → At (ppn pte * 4096 + q.va % page_at (levels - 1)) ≡ walk_from ram q levels table
+pub maps : (ram : Ram) (q : Asked) (levels table at pte : ℕ) → 0 < levels → at ≡ entry_place q (levels - 1) table → Ok pte ≡ entry_read ram at → false ≡ is_fault q (levels - 1) pte → true ≡ is_leaf pte → At (ppn pte * 4096 + q.va % page_size (levels - 1)) ≡ walk_from ram q levels table
 unfolding walk_from ends_in
 maps ram q zero table at pte some place read lawful leaf = absurd (omega arith)
 maps ram q (suc level) table at pte some place read lawful leaf = grind (arith, common_steps, nat_tests)

@@ -1,2 +1,5 @@
 pub mod Entry
 pub mod Walk
+pub mod Laws
+pub mod Cache
+pub mod Page

@@ -1,4 +1,5 @@
--- Translation of an address by satp: a sequence of at most three table entries, each standing in the table that the one before names.
+-- Translation of an address by satp: a sequence of table entries, at most three for Sv39 and four for Sv48, each standing in the table
+-- that the one before names.
 -- Privileged manual, "Supervisor Address Translation and Protection (satp) Register" and "Virtual Address Translation Process".
 use Rattle.std.specs.Prelude.{◌≡◌, ◌≢◌, ℕ, ◌+◌, ◌-◌, ◌*◌, ◌/◌, ◌%◌, ◌^◌, ◌<◌, ◌≤◌, ◌==◌, Bool, true, false, not, ◌&&◌, ◌||◌, nat_eq, if◌then◌else◌, List, length, slice_index, Result, Ok, Err}
 use Rattle.std.proofs.Common.{zero, suc}
@@ -6,7 +7,11 @@ use Rattle.fc_numbers.specs.declared.machine.Mode.{Mode}
 use Rattle.fc_numbers.specs.declared.machine.Access.{Access}
 use Rattle.fc_numbers.specs.declared.machine.Width.TheVariants.{Doubleword}
 use Rattle.guest_ram.specs.Ram.{Ram, is_inside, is_text, value}
-use Rattle.sv39_walk.specs.Entry.{ppn, is_leaf, is_fault, page_at}
+use Rattle.page_table.specs.declared.TheConstants.{PTE_SIZE}
+use Rattle.page_table.specs.Entry.{ppn, is_leaf}
+use Rattle.page_table.specs.Level.{index_at, page_size}
+use Rattle.page_table.specs.Mode.{is_canonical, levels_of, satp_mode}
+use Rattle.sv39_walk.specs.Entry.{is_fault}
 use Rattle.sv39_walk.specs.declared.Asked.{Asked}
 use Rattle.sv39_walk.specs.declared.Walked.{Walked}
 use Rattle.sv39_walk.specs.declared.Walked.TheVariants.{At, PageFault, AccessFault, TableInText}
@@ -17,7 +22,7 @@ asked mode sum mxr access va = record { mode = mode; sum = sum; mxr = mxr; acces
 
 -- the place of the entry for an address in a table: 512 entries of 8 bytes, found by 9 bits of the address for each level
 abbrev pub entry_place : Asked → ℕ → ℕ → ℕ
-entry_place q level table = table + 8 * (q.va / page_at level % 512)
+entry_place q level table = table + PTE_SIZE * index_at level q.va
 
 -- an entry that can be read, is no fault and is no leaf: the walk goes on in the table that it names
 abbrev pub leads_on : Ram → Asked → ℕ → ℕ → Bool
@@ -37,7 +42,7 @@ ends_in ram q level at =
     if not (is_inside ram at) then AccessFault
     else if is_text ram at then TableInText
     else if is_fault q level (value ram at Doubleword) then PageFault
-    else At (ppn (value ram at Doubleword) * 4096 + q.va % page_at level)
+    else At (ppn (value ram at Doubleword) * 4096 + q.va % page_size level)
 
 -- the entries that stand at these places, the first in this table and at the highest of so many levels, are a walk with this answer:
 -- each one but the last leads on to the next, one level below, and the last leads nowhere and gives the answer
@@ -50,14 +55,6 @@ pub record IsWalk (ram : Ram) (q : Asked) (levels : ℕ) (table : ℕ) (entries 
   pub last : leads_on ram q (levels - length entries) (slice_index entries (length entries - 1)) ≡ false
   pub ends : answer ≡ ends_in ram q (levels - length entries) (slice_index entries (length entries - 1))
 
--- bits 63 to 39 equal bit 38
-abbrev pub is_canonical : ℕ → Bool
-is_canonical va = nat_eq (va / 2 ^ 38) 0 || nat_eq (va / 2 ^ 38) (2 ^ 26 - 1)
-
--- MODE of satp, 0 for Bare and otherwise 8 for Sv39, which are all that it can hold
-abbrev pub satp_mode : ℕ → ℕ
-satp_mode satp = satp / 2 ^ 60
-
 -- where the page of the root table begins
 abbrev pub root_of : ℕ → ℕ
 root_of satp = satp % 2 ^ 44 * 4096
@@ -65,8 +62,8 @@ root_of satp = satp % 2 ^ 44 * 4096
 -- the translation of an address by satp has this answer
 pub record IsTranslation (ram : Ram) (satp : ℕ) (q : Asked) (answer : Walked) : Type 0 where
   pub bare : satp_mode satp ≡ 0 → answer ≡ At q.va
-  pub sign : satp_mode satp ≢ 0 → is_canonical q.va ≡ false → answer ≡ PageFault
-  pub walk : satp_mode satp ≢ 0 → is_canonical q.va ≡ true → (entries : List ℕ) × IsWalk ram q 3 (root_of satp) entries answer
+  pub sign : satp_mode satp ≢ 0 → is_canonical (levels_of satp) q.va ≡ false → answer ≡ PageFault
+  pub walk : satp_mode satp ≢ 0 → is_canonical (levels_of satp) q.va ≡ true → (entries : List ℕ) × IsWalk ram q (levels_of satp) (root_of satp) entries answer
 
 -- the same as a computation: the answer over so many levels from a table on
 unfoldable pub walk_from : Ram → Asked → ℕ → ℕ → Walked
@@ -79,7 +76,7 @@ walk_from ram q (suc level) table =
 unfoldable pub walked : Ram → ℕ → Asked → Walked
 walked ram satp q =
     if satp_mode satp == 0 then At q.va
-    else if is_canonical q.va then walk_from ram q 3 (root_of satp)
+    else if is_canonical (levels_of satp) q.va then walk_from ram q (levels_of satp) (root_of satp)
     else PageFault
 
 -- the place has the low 12 bits of the address

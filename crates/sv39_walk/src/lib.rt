@@ -1,9 +1,10 @@
 //! Translation of a guest's addresses by its page tables.
 //!
-//! [`walk`] is the translation that satp asks for: none, or Sv39 with three levels of tables in the guest's memory.
+//! [`walk`] is the translation that satp asks for: none, or Sv39 with three levels of tables in the guest's memory, or
+//! Sv48 with four.
 //!
-//! Promised: the answer of a walk is that of the sequence of entries that the privileged manual reads, at most three,
-//! each in the table that the one before names, up to a leaf or to the first entry that faults or stands in the
+//! Promised: the answer of a walk is that of the sequence of entries that the privileged manual reads, at most three
+//! or four, each in the table that the one before names, up to a leaf or to the first entry that faults or stands in the
 //! kernel's text. The walk never writes: it sets no accessed or dirty bit, and asks for them instead.
 //!
 //! It stands on `guest_ram`, whose memory it reads. The fetch, the instructions, the hook and the chain of a recovery
@@ -11,20 +12,28 @@
 #![tactic(auto)]
 
 ghost use Rattle.std.specs.Prelude.{◌≡◌, ◌≤◌, ◌<◌, ◌+◌, ◌*◌, ◌/◌, ◌^◌, ◌%◌, Result, Ok, Err};
-ghost use Rattle.sv39_walk.specs.Entry.{page_at};
-ghost use Rattle.sv39_walk.specs.Walk.{asked, entry_read, is_canonical, walk_from, walked, IsTranslation, KeepsLow};
+ghost use Rattle.page_table.specs.declared.TheConstants.{LEVELS_MOST};
+ghost use Rattle.page_table.specs.Level.{index_at, page_size};
+ghost use Rattle.page_table.specs.Mode.{is_canonical};
+ghost use Rattle.sv39_walk.specs.Walk.{asked, entry_read, walk_from, walked, IsTranslation, KeepsLow};
 
-use entry::{is_fault, is_leaf, page_number, within_page};
+use entry::is_fault;
 use fc_numbers::machine::{Access, Mode, Width};
 use fc_numbers::places::{Gpa, PAGE, Va};
 use guest_ram::GuestRam;
+use page_table::{
+    LEVELS_MOST, MODE_BARE, PPN_COUNT, PTE_SIZE, is_leaf, levels_of, mode_of, page_number,
+};
 
+pub mod cache;
 mod entry;
+pub mod laws;
+mod reads;
 #[cfg(test)]
 mod tests;
 
 /// What a translation is asked for.
-#[derive(Clone, Copy)]
+#[derive(Debug, Clone, Copy, PartialEq, Eq)]
 pub struct Asked {
     pub mode: Mode,
     /// SUM of sstatus: supervisor mode may load from and store to user pages.
@@ -48,14 +57,8 @@ pub enum Walked {
     TableInText,
 }
 
-/// The levels of an Sv39 table.
-const LEVELS: u64 = 3;
-
-/// The bytes of a table entry.
-const PTE_SIZE: u64 = 8;
-
 /// The entry at this place, or the answer of a walk that cannot read it.
-fn read_entry(ram: &GuestRam, at: Gpa) -> Result<u64, Walked>
+pub(crate) fn read_entry(ram: &GuestRam, at: Gpa) -> Result<u64, Walked>
     requires { at % 8 ≡ 0 }
     ensures { result ≡ entry_read ram.now at }
 {
@@ -67,23 +70,29 @@ fn read_entry(ram: &GuestRam, at: Gpa) -> Result<u64, Walked>
 }
 
 /// The number of the entry for the address in a table of the level.
-fn index(va: Va, level: u64) -> u64
-    requires { level < 3 }
-    ensures value { result ≡ va / page_at level % 512 }
+pub(crate) fn index(va: Va, level: u64) -> u64
+    requires { level < LEVELS_MOST }
+    ensures value { result ≡ index_at level va }
     ensures low { result < 512 }
 {
-    match level {
-        0 => (va.0 >> 12) % 512,
-        1 => (va.0 >> 21) % 512,
-        _ => (va.0 >> 30) % 512,
-    }
+    page_table::index(va.0, level)
+}
+
+/// The offset of the address in the page that a leaf of the level maps.
+fn within_page(va: Va, level: u64) -> u64
+    requires { level < LEVELS_MOST }
+    ensures value { result ≡ va % page_size level }
+    ensures within { result % 4096 ≡ va % 4096 }
+    ensures low { result < 2 ^ 39 }
+{
+    page_table::within_page(va.0, level)
 }
 
 /// The walk over so many levels, from the table at this place on.
 #[tactic(auto, unfolding(crate::specs::Walk::walk_from))]
 fn descend(ram: &GuestRam, q: &Asked, levels: u64, table: u64) -> Walked
     requires some { 0 < levels }
-    requires most { levels ≤ 3 }
+    requires most { levels ≤ LEVELS_MOST }
     requires low { table < 2 ^ 56 }
     requires page { table % 4096 ≡ 0 }
     ensures value { result ≡ walk_from ram.now q.now levels table }
@@ -103,28 +112,32 @@ fn descend(ram: &GuestRam, q: &Asked, levels: u64, table: u64) -> Walked
     descend(ram, q, level, page_number(pte) * PAGE)
 }
 
-fn is_canonical(va: Va) -> bool
-    ensures { result ≡ is_canonical va }
+/// Whether tables of so many levels map the address.
+pub(crate) fn is_canonical(levels: u64, va: Va) -> bool
+    requires some { 3 ≤ levels }
+    requires most { levels ≤ LEVELS_MOST }
+    ensures { result ≡ is_canonical levels va }
 {
-    va.0 >> 38 == 0 || va.0 >> 38 == 0x3ff_ffff
+    page_table::is_canonical(levels, va.0)
 }
 
 #[tactic(auto, unfolding(crate::specs::Walk::walked))]
-fn translate(ram: &GuestRam, satp: u64, q: &Asked) -> Walked
+pub(crate) fn translate(ram: &GuestRam, satp: u64, q: &Asked) -> Walked
     ensures value { result ≡ walked ram.now satp q.now }
     ensures low { KeepsLow q.now.va result }
 {
-    if satp >> 60 == 0 {
+    if mode_of(satp) == MODE_BARE {
         return Walked::At(Gpa(q.va.0));
     }
-    if !is_canonical(q.va) {
+    let levels = levels_of(satp);
+    if !is_canonical(levels, q.va) {
         return Walked::PageFault;
     }
-    descend(ram, q, LEVELS, (satp % 0x1000_0000_0000) * PAGE)
+    descend(ram, q, levels, (satp % PPN_COUNT) * PAGE)
 }
 
 /// Translates the address for the access, by satp and by SUM and MXR of sstatus. It reads table entries and writes
-/// nothing. The privileged manual allows satp no other MODE than 0 (Bare) and 8 (Sv39) here; any but 0 is walked.
+/// nothing. A satp that a guest wrote has the MODE 0 (Bare), 8 (Sv39) or 9 (Sv48); any other is walked as Sv39.
 pub fn walk(
     ram: &GuestRam,
     satp: u64,

@@ -2,6 +2,7 @@
 
 ghost use Rattle.std.specs.Prelude.{◌≡◌, IfOk, length};
 
+use super::cache::WalkCache;
 use super::*;
 use fc_numbers::memory::NoMemory;
 use fc_numbers::places::{RAM_START, Span};
@@ -178,6 +179,129 @@ fn root_table_and_sign_of_the_address_decide_first(rt: HostRuntime) -> Result<()
     ] {
         let got = walk(&ram, satp, Mode::Vs, false, false, Access::Load, Va(va));
         assert_eq!(rt; got, want, "satp {satp:#x} at {va:#x}");
+    }
+    Ok(())
+}
+
+/// satp of MODE 9 with the page number of the level 3 table, the first page of memory.
+const SATP_SV48: u64 = 0x9000_0000_0008_0000;
+
+/// Entry 5 at level 3, entry 1 at level 2, entry 2 at level 1, entry 3 at level 0.
+const VA_SV48: u64 = 0x0280_4040_3123;
+
+#[test]
+fn four_levels_are_read_where_satp_has_mode_9(rt: HostRuntime) -> Result<(), Fail> {
+    let leaf: u64 = 0x1_2345 << 10 | V | R | A;
+    let huge: u64 = 0x800_0000 << 10 | V | R | A;
+    let huge_misaligned: u64 = 0x804_0000 << 10 | V | R | A;
+    let to_level_2: u64 = 0x8_0001 << 10 | V;
+    let to_level_1: u64 = 0x8_0002 << 10 | V;
+    let to_level_0: u64 = 0x8_0004 << 10 | V;
+    for (name, at_level_3, satp, va, want) in [
+        (
+            "four entries",
+            to_level_2,
+            SATP_SV48,
+            VA_SV48,
+            Walked::At(Gpa(0x1234_5123)),
+        ),
+        (
+            "a leaf of 512 GiB",
+            huge,
+            SATP_SV48,
+            VA_SV48,
+            Walked::At(Gpa(0x80_0000_0000 + 0x4040_3123)),
+        ),
+        (
+            "a leaf that is not aligned",
+            huge_misaligned,
+            SATP_SV48,
+            VA_SV48,
+            Walked::PageFault,
+        ),
+        (
+            "a pointer with U",
+            to_level_2 | U,
+            SATP_SV48,
+            VA_SV48,
+            Walked::PageFault,
+        ),
+        (
+            "bit 47 alone",
+            to_level_2,
+            SATP_SV48,
+            0x8280_4040_3123,
+            Walked::PageFault,
+        ),
+        (
+            "bits 63 to 48 alone",
+            to_level_2,
+            SATP_SV48,
+            0xffff_0280_4040_3123,
+            Walked::PageFault,
+        ),
+        (
+            "an address too wide for three levels",
+            to_level_2,
+            SATP,
+            VA_SV48,
+            Walked::PageFault,
+        ),
+    ] {
+        let mut ram = empty_memory(rt.alloc())?;
+        ram.place(Gpa(RAM_START + 8 * 5), &at_level_3.to_le_bytes());
+        ram.place(Gpa(RAM_START + PAGE + 8), &to_level_1.to_le_bytes());
+        ram.place(Gpa(RAM_START + 2 * PAGE + 16), &to_level_0.to_le_bytes());
+        ram.place(Gpa(RAM_START + 4 * PAGE + 24), &leaf.to_le_bytes());
+        let got = walk(&ram, satp, Mode::Vs, false, false, Access::Load, Va(va));
+        assert_eq!(rt; got, want, "{name}");
+    }
+    Ok(())
+}
+
+/// Memory whose tables map the pages 0x80000000 and 0x80001000 to the first page, which is text, in three levels.
+fn mapped_twice(alloc: Global) -> Result<GuestRam, NoMemory> {
+    let mut text = Spans::new();
+    text.push(Span {
+        start: Gpa(RAM_START),
+        end: Gpa(RAM_START + PAGE),
+    });
+    let mut ram = GuestRam::new(alloc, 16 * PAGE, text)?;
+    for (at, pte) in [
+        (0x8000_2010, 0x2000_0c01_u64),
+        (0x8000_3000, 0x2000_1001),
+        (0x8000_4000, 0x2000_004b),
+        (0x8000_4008, 0x2000_004b),
+    ] {
+        ram.place(Gpa(at), &pte.to_le_bytes());
+    }
+    Ok(ram)
+}
+
+#[test]
+fn kept_answer_is_dropped_where_a_table_entry_was_stored_to(rt: HostRuntime) -> Result<(), Fail> {
+    let mut ram = mapped_twice(rt.alloc())?;
+    let mut cache = WalkCache::new();
+    let satp = 0x8000_0000_0008_0002;
+    let text = Walked::At(Gpa(RAM_START));
+    for (name, stored, first, second) in [
+        ("at first", None, text, text),
+        ("a leaf set to 0", Some(0), text, Walked::PageFault),
+        ("the leaf set back", Some(0x2000_004b), text, text),
+    ] {
+        if let Some(pte) = stored {
+            let done = ram.store(Gpa(0x8000_4008), Width::Doubleword, pte);
+            assert_eq!(rt; done, Ok(()), "{name}");
+        }
+        for (va, want) in [
+            (RAM_START, first),
+            (RAM_START + PAGE, second),
+            (RAM_START, first),
+            (RAM_START + PAGE, second),
+        ] {
+            let got = cache.cached_walk(&ram, satp, Mode::Vs, false, false, Access::Fetch, Va(va));
+            assert_eq!(rt; got, want, "{name}: {va:#x}");
+        }
     }
     Ok(())
 }

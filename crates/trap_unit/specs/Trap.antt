@@ -3,7 +3,7 @@
 use Rattle.std.specs.Prelude.{ℕ, ◌+◌, ◌-◌, ◌*◌, ◌%◌, ◌^◌, Bool, true, ◌&&◌, nat_le, if◌then◌else◌, bit_and, bit_or, Option, Some, None}
 use Rattle.fc_numbers.specs.declared.machine.Mode.{Mode}
 use Rattle.fc_numbers.specs.declared.machine.Mode.TheVariants.{Vu, Vs}
-use Rattle.rv_csr.specs.declared.TheConstants.{STATUS_SIE, STATUS_SPIE, STATUS_SPP}
+use Rattle.rv_csr.specs.declared.TheConstants.{SIE_BIT, SPIE_BIT, SPP_BIT, STATUS_SIE, STATUS_SPIE, STATUS_SPP}
 use Rattle.rv_csr.specs.Csrs.{Csrs}
 use Rattle.rv_csr.specs.Csr.{is_set}
 use Rattle.trap_unit.specs.declared.TheConstants.{INTERRUPT, SOFTWARE, TIMER, EXTERNAL}
@@ -18,11 +18,11 @@ spp_of Vu = 0
 
 -- SPIE is what SIE was, SIE is 0, and SPP tells the mode
 abbrev pub trap_status : ℕ → Mode → ℕ
-trap_status status mode = bit_or (bit_or (cleared status) (if is_set status 1 then STATUS_SPIE else 0)) (spp_of mode)
+trap_status status mode = bit_or (bit_or (cleared status) (if is_set status SIE_BIT then STATUS_SPIE else 0)) (spp_of mode)
 
 -- SIE is what SPIE was, SPIE is 1, and SPP is 0
 abbrev pub return_status : ℕ → ℕ
-return_status status = bit_or (bit_or (cleared status) (if is_set status 5 then STATUS_SIE else 0)) STATUS_SPIE
+return_status status = bit_or (bit_or (cleared status) (if is_set status SPIE_BIT then STATUS_SIE else 0)) STATUS_SPIE
 
 -- stvec without its low two bits, and for a vectored interrupt 4 times its code further on
 abbrev pub vector : ℕ → ℕ → ℕ
@@ -44,19 +44,19 @@ abbrev pub returned : Csrs → Csrs
 returned csr = record csr { sstatus = return_status csr.sstatus }
 
 abbrev pub return_mode : Csrs → Mode
-return_mode csr = if is_set csr.sstatus 8 then Vs else Vu
+return_mode csr = if is_set csr.sstatus SPP_BIT then Vs else Vu
 
 -- user mode takes every enabled interrupt, supervisor mode only with SIE
 abbrev pub are_open : Csrs → Mode → Bool
 are_open csr Vu = true
-are_open csr Vs = is_set csr.sstatus 1
+are_open csr Vs = is_set csr.sstatus SIE_BIT
 
 abbrev pub due : Csrs → Mode → ℕ → Option ℕ
 due csr mode lines =
     let asked = bit_and lines csr.sie in
     if are_open csr mode
-    then (if is_set asked 9 then Some EXTERNAL
-    else if is_set asked 1 then Some SOFTWARE
-    else if is_set asked 5 then Some TIMER
+    then (if is_set asked EXTERNAL then Some EXTERNAL
+    else if is_set asked SOFTWARE then Some SOFTWARE
+    else if is_set asked TIMER then Some TIMER
     else None)
     else None

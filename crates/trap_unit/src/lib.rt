@@ -12,7 +12,7 @@ ghost use Rattle.trap_unit.specs.Trap.{entered, entered_at, returned, return_mod
 
 use fc_numbers::machine::Mode;
 use fc_numbers::places::Va;
-use rv_csr::{CsrFile, STATUS_SIE, STATUS_SPIE, STATUS_SPP, has_bit};
+use rv_csr::{CsrFile, SIE_BIT, SPIE_BIT, SPP_BIT, STATUS_SIE, STATUS_SPIE, STATUS_SPP, has_bit};
 
 /// The bit of scause that tells an interrupt.
 pub const INTERRUPT: u64 = 0x8000_0000_0000_0000;
@@ -27,10 +27,16 @@ pub const EXTERNAL: u8 = 9;
 /// All bits but SIE, SPIE and SPP.
 const STATUS_OTHERS: u64 = 0xffff_ffff_ffff_fedd;
 
+/// The bit of stvec that asks for a place of its own for each interrupt.
+const VECTORED_BIT: u32 = 0;
+
+/// The bits of stvec that are the address: all but the two of its mode.
+const STVEC_BASE: u64 = 0xffff_ffff_ffff_fffc;
+
 fn status_in_trap(status: u64, mode: Mode) -> u64
     ensures { result ≡ trap_status status mode }
 {
-    let spie = if has_bit(status, 1) { STATUS_SPIE } else { 0 };
+    let spie = if has_bit(status, SIE_BIT) { STATUS_SPIE } else { 0 };
     let spp = match mode {
         Mode::Vs => STATUS_SPP,
         Mode::Vu => 0,
@@ -41,15 +47,15 @@ fn status_in_trap(status: u64, mode: Mode) -> u64
 fn status_after(status: u64) -> u64
     ensures { result ≡ return_status status }
 {
-    let sie = if has_bit(status, 5) { STATUS_SIE } else { 0 };
+    let sie = if has_bit(status, SPIE_BIT) { STATUS_SIE } else { 0 };
     (status & STATUS_OTHERS) | sie | STATUS_SPIE
 }
 
 fn handler(stvec: u64, cause: u64) -> u64
     ensures { result ≡ vector stvec cause }
 {
-    let base = stvec & 0xffff_ffff_ffff_fffc;
-    if cause >= INTERRUPT && has_bit(stvec, 0) {
+    let base = stvec & STVEC_BASE;
+    if cause >= INTERRUPT && has_bit(stvec, VECTORED_BIT) {
         base.wrapping_add((cause - INTERRUPT).wrapping_mul(4))
     } else {
         base
@@ -75,7 +81,7 @@ pub fn sret(csr: &mut CsrFile) -> (Mode, Va)
     ensures mode { result.0 ≡ return_mode csr.old }
     ensures place { result.1 ≡ csr.old.sepc }
 {
-    let mode = if has_bit(csr.sstatus, 8) {
+    let mode = if has_bit(csr.sstatus, SPP_BIT) {
         Mode::Vs
     } else {
         Mode::Vu
@@ -89,7 +95,7 @@ fn is_open(csr: &CsrFile, mode: Mode) -> bool
 {
     match mode {
         Mode::Vu => true,
-        Mode::Vs => has_bit(csr.sstatus, 1),
+        Mode::Vs => has_bit(csr.sstatus, SIE_BIT),
     }
 }
 
@@ -101,11 +107,11 @@ pub fn pending(csr: &CsrFile, mode: Mode, lines: u64) -> Option<u8>
         return None;
     }
     let asked = lines & csr.sie;
-    if has_bit(asked, 9) {
+    if has_bit(asked, EXTERNAL as u32) {
         Some(EXTERNAL)
-    } else if has_bit(asked, 1) {
+    } else if has_bit(asked, SOFTWARE as u32) {
         Some(SOFTWARE)
-    } else if has_bit(asked, 5) {
+    } else if has_bit(asked, TIMER as u32) {
         Some(TIMER)
     } else {
         None
