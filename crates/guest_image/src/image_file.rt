@@ -108,7 +108,7 @@ fn accept(alloc: Global, laid: Laid) -> Result<ElfParts, ImageFault>
 {
     match kernel_of_laid(alloc, laid) {
         Ok(kernel) => Ok(kernel),
-        Err(fault) => Err(ImageFault::Elf(fault)),
+        Err(refused) => Err(ImageFault::Elf(refused)),
     }
 }
 
