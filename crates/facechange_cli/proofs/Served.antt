@@ -20,9 +20,9 @@ sure (Try setup) = (image_sure, λ i. (views_sure i, λ v. tt))
 
 pub accepted : AcceptedFilesAreServed
 accepted words command b a x at told k free ok = elim (accepted-files (request_of words command) (sure command) b a x at told k free ok) [
-    inl none ↦ inl none
-    | inr rest ↦ elim rest [ inl made ↦ inr made | inr failed ↦ absurd (never-fails words at failed.0 command failed.2) ]
-  ]
+  | inl none ↦ inl none
+  | inr rest ↦ elim rest [ inl made ↦ inr made | inr failed ↦ absurd (never-fails words at failed.0 command failed.2) ]
+]
 
 pub refused : RefusedFilesAreAnswered
 refused words command = refused-files (request_of words command) (sure command)

@@ -43,17 +43,29 @@ pub(crate) fn hello_log() -> &'static [u8] {
 /// The kernel that calls put as an ELF file.
 static PUT_ELF: [(&str, usize); 6] = [
     // header
-    ("7f454c460201010000000000000000000200f3000100000000000080000000004000000000000000e80000000000000000000000400038000100400003000000", 0),
+    (
+        "7f454c460201010000000000000000000200f3000100000000000080000000004000000000000000e80000000000000000000000400038000100400003000000",
+        0,
+    ),
     // program header
-    ("0100000005000000780000000000000000000080000000000000008000000000180000000000000018000000000000000010000000000000", 0),
+    (
+        "0100000005000000780000000000000000000080000000000000008000000000180000000000000018000000000000000010000000000000",
+        0,
+    ),
     // text
     ("ef00c000a148730000000100854813051004730000008280", 0),
     // symbols: none, main, put
-    ("000000000000000000000000000000000000000000000000010000001200010000000080000000000c0000000000000006000000120001000c000080000000000c00000000000000", 0),
+    (
+        "000000000000000000000000000000000000000000000000010000001200010000000080000000000c0000000000000006000000120001000c000080000000000c00000000000000",
+        0,
+    ),
     // strings, and padding to the next
     ("006d61696e0070757400000000000000", 0),
     // section headers: none, symbols, strings
-    ("0000000000000000000000000000000000000000000000000000000000000000000000000000000000000000000000000000000000000000000000000000000000000000020000000000000000000000000000000000000090000000000000004800000000000000020000000100000008000000000000001800000000000000000000000300000000000000000000000000000000000000d8000000000000000a00000000000000000000000000000001000000000000000000000000000000", 0),
+    (
+        "0000000000000000000000000000000000000000000000000000000000000000000000000000000000000000000000000000000000000000000000000000000000000000020000000000000000000000000000000000000090000000000000004800000000000000020000000100000008000000000000001800000000000000000000000300000000000000000000000000000000000000d8000000000000000a00000000000000000000000000000001000000000000000000000000000000",
+        0,
+    ),
 ];
 
 /// The parts of that file: hexadecimal digits, and how many zero bytes follow them.
@@ -63,14 +75,23 @@ pub(crate) fn put_parts() -> &'static [(&'static str, usize)] {
 
 /// Places in an ELF file, in bytes from its start: the fields of its header, by their names in the ELF format.
 const EI_MARK: usize = 0;
+
 const EI_CLASS: usize = 4;
+
 const EI_DATA: usize = 5;
+
 const E_TYPE: usize = 16;
+
 const E_MACHINE: usize = 18;
+
 const E_ENTRY: usize = 24;
+
 const E_PHOFF: usize = 32;
+
 const E_SHOFF: usize = 40;
+
 const E_PHENTSIZE: usize = 54;
+
 const E_SHENTSIZE: usize = 58;
 
 /// The highest byte of a field of eight.
@@ -78,21 +99,31 @@ const TOP: usize = 7;
 
 /// Where the compiled kernel has the program headers of text and of data, and the fields of a program header.
 const TEXT: usize = 64;
+
 const DATA: usize = 120;
+
 const P_FLAGS: usize = 4;
+
 const P_OFFSET: usize = 8;
+
 const P_PADDR: usize = 24;
+
 const P_FILESZ: usize = 32;
+
 const P_MEMSZ: usize = 40;
 
 /// Where it has the section headers of symbols and of strings, and the fields of a section header.
 const SYMBOLS: usize = 9440;
+
 const STRINGS: usize = 9504;
+
 const SH_OFFSET: usize = 24;
+
 const SH_LINK: usize = 40;
 
 /// Where it has the symbol of a function, and the field of its place.
 const SYMBOL: usize = 8616;
+
 const ST_VALUE: usize = 8;
 
 /// Bytes of the compiled kernel that are others, each with its place, and the line by which it is then refused.
@@ -179,9 +210,9 @@ static DAMAGES: [Damage; 30] = [
         line: b"3 image 4 NoText\n",
     },
     Damage {
-        label: "two segments that run",
-        patches: &[(DATA + P_FLAGS, 5)],
-        line: b"3 image 5 TwoTexts\n",
+        label: "a second segment that runs, and that may be written",
+        patches: &[(DATA + P_FLAGS, 7)],
+        line: b"3 image 6 WritableText\n",
     },
     Damage {
         label: "text that may be written",

@@ -89,7 +89,9 @@ static ROWS: [Row; 12] = [
         wanted: Wanted {
             status: 0,
             console: b"A",
-            log: Some(b"0 0 sh 0x80000000 main+0x0 0x80000000 0x8000000c\n1 0 sh 0x8000000c put+0x0 0x8000000c 0x80001000 main+0x4\n"),
+            log: Some(
+                b"0 0 sh 0x80000000 main+0x0 0x80000000 0x8000000c\n1 0 sh 0x8000000c put+0x0 0x8000000c 0x80001000 main+0x4\n",
+            ),
             line: b"",
         },
     },
@@ -286,13 +288,18 @@ const SPLIT_TEXT: &[&str] = &[
 ];
 
 /// The page tables of that kernel.
-const SPLIT_TABLES: &str = ",\"functions\":[[2147483648,\"main\"]],\"data\":[[2147491856,\"010c002000000000\"],[2147495936,\"0110002000000000\"],[2147500032,\"4b000020000000004b00002000000000\"]]";
+const SPLIT_TABLES: &str =
+    ",\"functions\":[[2147483648,\"main\"]],\"data\":[[2147491856,\"010c002000000000\"],[2147495936,\"0110002000000000\"],[2147500032,\"4b000020000000004b00002000000000\"]]";
 
 /// The last halfword of that kernel's page of text: the first half of an auipc.
 const SPLIT_LAST: &[&str] = &["9702"];
 
 /// The text of the split kernel before 4,070 zero bytes and behind them, and its page tables.
-pub(crate) fn split_kernel() -> (&'static [&'static str], &'static [&'static str], &'static str) {
+pub(crate) fn split_kernel() -> (
+    &'static [&'static str],
+    &'static [&'static str],
+    &'static str,
+) {
     (SPLIT_TEXT, SPLIT_LAST, SPLIT_TABLES)
 }
 
@@ -301,12 +308,27 @@ static FORMS: [(&str, &[&str]); 9] = [
     ("no words", &[]),
     ("the command alone", &["try"]),
     ("no log", &["try", "image", "views", "sh", "100"]),
-    ("one word more", &["try", "image", "views", "sh", "100", "log", "more"]),
-    ("another command", &["run", "image", "views", "sh", "100", "log"]),
-    ("no app name", &["try", "image", "views", "a b", "100", "log"]),
+    (
+        "one word more",
+        &["try", "image", "views", "sh", "100", "log", "more"],
+    ),
+    (
+        "another command",
+        &["run", "image", "views", "sh", "100", "log"],
+    ),
+    (
+        "no app name",
+        &["try", "image", "views", "a b", "100", "log"],
+    ),
     ("no step", &["try", "image", "views", "sh", "0", "log"]),
-    ("a leading zero", &["try", "image", "views", "sh", "007", "log"]),
-    ("too many steps", &["try", "image", "views", "sh", "16777217", "log"]),
+    (
+        "a leading zero",
+        &["try", "image", "views", "sh", "007", "log"],
+    ),
+    (
+        "too many steps",
+        &["try", "image", "views", "sh", "16777217", "log"],
+    ),
 ];
 
 pub(crate) fn other_words() -> &'static [(&'static str, &'static [&'static str])] {
@@ -383,7 +405,9 @@ static FILES: [Refused; 10] = [
     Refused {
         label: "views of another text",
         image: None,
-        views: GivenViews::Text("{\"version\":1,\"text\":\"0000000000000000000000000000000000000000000000000000000000000000\",\"shared\":[],\"apps\":[]}"),
+        views: GivenViews::Text(
+            "{\"version\":1,\"text\":\"0000000000000000000000000000000000000000000000000000000000000000\",\"shared\":[],\"apps\":[]}",
+        ),
         status: 5,
         line: b"5 views 3 OtherText\n",
     },
@@ -392,7 +416,7 @@ static FILES: [Refused; 10] = [
         image: None,
         views: GivenViews::Listed("12,2", ""),
         status: 5,
-        line: b"5 views 4 UnknownFunction 2\n",
+        line: b"5 views 4 UnknownFunction 0 2\n",
     },
     Refused {
         label: "a name with a space",
@@ -500,3 +524,11 @@ pub(crate) fn failings() -> &'static [Failing] {
     &FAILINGS
 }
 
+/// The first kernel with `put` in a second range, at 0x80002000, and the log of its run.
+pub(crate) fn two_ranges() -> (&'static str, &'static [u8]) {
+    // jal 8192; li a7, 8; ecall; nop | put: li a7, 1; li a0, 65; ecall; ret
+    (
+        "{\"code\":[[2147483648,\"ef200000a14873000000\"],[2147491840,\"854813051004730000008280\"]],\"entry\":2147483648,\"functions\":[[2147483648,\"main\"],[2147491840,\"put\"]]}",
+        b"1 0 sh 0x80002000 put+0x0 0x80002000 0x80003000 main+0x4\n",
+    )
+}

@@ -5,7 +5,7 @@ use crate::kernels::{damages, hello_log, hello_parts, hello_views, put_parts};
 use crate::programs::programs;
 use crate::tables::{
     GivenViews, Wanted, failings, kernels, other_words, put_kernel, put_log, refused_files,
-    split_kernel,
+    split_kernel, two_ranges,
 };
 use elf_read::parts::ElfFault;
 use fc_outside::memory::MemStore;
@@ -28,9 +28,7 @@ fn add(digits: &mut String, text: &[&str]) -> Result<(), Fail> {
 
 /// A plain image at 0x80000000 with this text and these further members.
 fn image_of(alloc: Global, text: &str, more: &str) -> Result<String, Fail> {
-    Ok(format!(in alloc;
-        "{{\"base\":2147483648,\"entry\":2147483648,\"text\":\"{text}\"{more}}}"
-    )?)
+    Ok(format!(in alloc; "{{\"base\":2147483648,\"entry\":2147483648,\"text\":\"{text}\"{more}}}")?)
 }
 
 /// A plain image with this text and these functions.
@@ -142,7 +140,13 @@ fn kernels_run_as_worked_out(rt: HostRuntime) -> Result<(), Fail> {
     for row in kernels() {
         let image = kernel_of(alloc, row.text, row.functions)?;
         let views = views_of(alloc, image.as_bytes(), "", row.apps)?;
-        let came = call(alloc, &TRY, Some(image.as_bytes()), views.as_bytes(), NONE_FAILS)?;
+        let came = call(
+            alloc,
+            &TRY,
+            Some(image.as_bytes()),
+            views.as_bytes(),
+            NONE_FAILS,
+        )?;
         came.is(&rt, row.label, &row.wanted);
     }
     Ok(())
@@ -158,7 +162,13 @@ fn traps_and_control_registers_are_the_manuals(rt: HostRuntime) -> Result<(), Fa
         }
         let image = image_of(alloc, digits.as_str(), row.more)?;
         let views = views_of(alloc, image.as_bytes(), "", "")?;
-        let came = call(alloc, &TRY, Some(image.as_bytes()), views.as_bytes(), NONE_FAILS)?;
+        let came = call(
+            alloc,
+            &TRY,
+            Some(image.as_bytes()),
+            views.as_bytes(),
+            NONE_FAILS,
+        )?;
         let wanted = Wanted {
             status: 0,
             console: row.console,
@@ -183,7 +193,13 @@ fn a_split_instruction_stops_the_run(rt: HostRuntime) -> Result<(), Fail> {
     add(&mut digits, last)?;
     let image = image_of(alloc, digits.as_str(), more)?;
     let views = views_of(alloc, image.as_bytes(), "", "")?;
-    let came = call(alloc, &TRY, Some(image.as_bytes()), views.as_bytes(), NONE_FAILS)?;
+    let came = call(
+        alloc,
+        &TRY,
+        Some(image.as_bytes()),
+        views.as_bytes(),
+        NONE_FAILS,
+    )?;
     let wanted = Wanted {
         status: 9,
         console: b"",
@@ -191,6 +207,73 @@ fn a_split_instruction_stops_the_run(rt: HostRuntime) -> Result<(), Fail> {
         line: b"9 stop TextSplit\n",
     };
     came.is(&rt, "split", &wanted);
+    Ok(())
+}
+
+/// Views of this version for the image, with one app, `sh`, and these functions.
+fn views_in(alloc: Global, image: &[u8], version: &str, functions: &str) -> Result<String, Fail> {
+    let digest = digest_of(alloc, image)?;
+    Ok(format!(in alloc;
+        "{{\"version\":{version},\"text\":\"{digest}\",\"shared\":[],\"apps\":[{{\"name\":\"sh\",\"functions\":{functions}}}]}}"
+    )?)
+}
+
+/// A function of another range is missing: it is restored and logged by its own place. Views of either version name the
+/// function that is there.
+#[test]
+fn a_kernel_of_two_ranges_runs_under_views_of_both_versions(rt: HostRuntime) -> Result<(), Fail> {
+    let alloc = rt.alloc();
+    let (image, log) = two_ranges();
+    for (label, version, functions) in [
+        ("views of version 1", "1", "[0]"),
+        ("views of version 2", "2", "[[0,0]]"),
+    ] {
+        let views = views_in(alloc, image.as_bytes(), version, functions)?;
+        let came = call(
+            alloc,
+            &TRY,
+            Some(image.as_bytes()),
+            views.as_bytes(),
+            NONE_FAILS,
+        )?;
+        let wanted = Wanted {
+            status: 0,
+            console: b"A",
+            log: Some(log),
+            line: b"",
+        };
+        came.is(&rt, label, &wanted);
+    }
+    Ok(())
+}
+
+/// The last halfword of the first range begins a wide instruction. The next range is not joined to it, and what follows
+/// it is no text.
+#[test]
+fn a_wide_instruction_at_the_end_of_a_range_stops_the_run(rt: HostRuntime) -> Result<(), Fail> {
+    let alloc = rt.alloc();
+    let mut image = String::new(alloc);
+    image.push_str("{\"entry\":2147483648,\"code\":[[2147483648,\"6f00f07f")?;
+    for _ in 0..4090 {
+        image.push_str("00")?;
+    }
+    image.push_str("9702\"],[2147491840,\"0100\"]]}")?;
+    let views = views_in(alloc, image.as_bytes(), "2", "[]")?;
+    let words = ["try", "image", "views", "vi", "100", "log"];
+    let came = call(
+        alloc,
+        &words,
+        Some(image.as_bytes()),
+        views.as_bytes(),
+        NONE_FAILS,
+    )?;
+    let wanted = Wanted {
+        status: 9,
+        console: b"",
+        log: Some(b""),
+        line: b"9 stop KernelOutsideText\n",
+    };
+    came.is(&rt, "the end of a range", &wanted);
     Ok(())
 }
 
@@ -269,7 +352,13 @@ fn a_compiled_kernel_runs_to_its_end(rt: HostRuntime) -> Result<(), Fail> {
     let alloc = rt.alloc();
     let image = bytes_of(alloc, hello_parts())?;
     let words = ["try", "image", "views", "hello", "2000", "log"];
-    let came = call(alloc, &words, Some(&image), hello_views().as_bytes(), NONE_FAILS)?;
+    let came = call(
+        alloc,
+        &words,
+        Some(&image),
+        hello_views().as_bytes(),
+        NONE_FAILS,
+    )?;
     let wanted = Wanted {
         status: 0,
         console: b"Hello.\nTwo ticks later: bye.\n",

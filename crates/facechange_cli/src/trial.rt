@@ -20,7 +20,9 @@ use std::alloc::Global;
 
 /// The places of the image, of the views and of the log in the words.
 const IMAGE: usize = 1;
+
 const VIEWS: usize = 2;
+
 const LOG: usize = 5;
 
 /// How a command ends whose run ended so.

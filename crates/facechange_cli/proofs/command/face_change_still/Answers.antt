@@ -22,9 +22,13 @@ returns g c =
     let second : Finishes words c.make-made.result (outside_of (g.S.Store.files c.args.store.now) reads (g.S.Store.writes c.args.store.now) out puts) after c.finish-told.result.answer
     = subst (λ (writes : Faults). Finishes words c.make-made.result (outside_of (g.S.Store.files c.args.store.now) reads writes out puts) after c.finish-told.result.answer)
     c.make-made.ensures.writes first in
-    inr (c.in-Some.command, c.in-Some.ensures.some, record {
-      answer = c.finish-told.result.answer;
-      is = c.tell.ensures.status;
-      line = c.tell.ensures.told;
-      means = answered request before after reads c.make-made.result c.finish-told.result.answer c.make-made.ensures.said c.make-made.ensures.counted c.make-made.ensures.outputs second;
-    })
+    inr (
+      c.in-Some.command,
+      c.in-Some.ensures.some,
+      record {
+        answer = c.finish-told.result.answer;
+        is = c.tell.ensures.status;
+        line = c.tell.ensures.told;
+        means = answered request before after reads c.make-made.result c.finish-told.result.answer c.make-made.ensures.said c.make-made.ensures.counted c.make-made.ensures.outputs second;
+      },
+    )
