@@ -30,6 +30,6 @@ pub returns-clause-image : goal.returns-clause-image
 returns-clause-image c =
     let spans : spans_of c.of.result ≡ kernels.two_pages = c.of.ensures.spans ∙ c.two_pages.ensures in
     let starts : starts_of c.push-2.new.self ≡ two_starts =
-        rw (c.in_ok-push-2.ensures.ok, c.in_ok-push.ensures.ok, c.new-functions.ensures, c.function.ensures, c.function-2.ensures) refl in
+    rw (c.in_ok-push-2.ensures.ok, c.in_ok-push.ensures.ok, c.new-functions.ensures, c.function.ensures, c.function-2.ensures) refl in
     let bytes : bytes_of c.of.result ≡ c.in_ok-bytes.bytes.items = c.of.ensures.bytes ∙ c.in_ok-from_vec.ensures in
     image-good _ kernels.two_pages c.in_ok-bytes.bytes.items two_starts spans bytes starts c.new.ensures (two-ranges _ c.in_ok-bytes.ensures) two-inside two-good two-heads (omega arith) refl refl
