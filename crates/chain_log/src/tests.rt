@@ -47,12 +47,7 @@ fn two_spans() -> Spans
 }
 
 /// A function of this name at this start.
-fn function(
-    alloc: Global,
-    range: u8,
-    offset: u32,
-    name: &[u8],
-) -> Result<Function, NoMemory>
+fn function(alloc: Global, range: u8, offset: u32, name: &[u8]) -> Result<Function, NoMemory>
     ensures { IfOk result (λ function. function.at ≡ record { range = range; offset = offset }) }
 {
     Ok(Function {

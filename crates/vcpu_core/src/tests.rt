@@ -1,6 +1,6 @@
 //! A kernel of two functions in two ranges of text, run under a view that lacks the second. The run is worked out by hand.
 
-ghost use Rattle.std.specs.Prelude.{◌≡◌, ◌+◌, [], ◌∷◌, IfOk};
+ghost use Rattle.std.specs.Prelude.{◌≡◌, ◌+◌, [], ◌∷◌, IfOk, length};
 ghost use Rattle.fc_numbers.specs.Spans.{IsTextBelow};
 ghost use Rattle.guest_input.specs.Accepted.{IsImage, IsSetupFor};
 ghost use Rattle.guest_input.specs.Text.{spans_of};
@@ -62,15 +62,23 @@ fn function(alloc: Global, range: u8, offset: u32) -> Function
     }
 }
 
+/// The bytes of the two ranges.
+fn text(alloc: Global) -> Result<Vec<u8>, NoMemory>
+    ensures { IfOk result (λ bytes. length bytes.items ≡ 8192) }
+{
+    let mut bytes = vec![in alloc; 0u8; 8192]?;
+    bytes[..10].copy_from_slice(&MAIN);
+    bytes[4096..4108].copy_from_slice(&PUT);
+    Ok(bytes)
+}
+
 /// The kernel of `main` and `put`.
 fn kernel(alloc: Global) -> Result<Image, NoMemory>
     ensures image { IfOk result (λ image. IsImage image) }
     ensures spans { IfOk result (λ image. spans_of image.ranges ≡ record { start = BASE; end = BASE + 4096 } ∷ record { start = BASE + 8192; end = BASE + 12288 } ∷ []) }
     ensures parts { IfOk result (λ image. image.parts ≡ []) }
 {
-    let mut bytes = vec![in alloc; 0u8; 8192]?;
-    bytes[..10].copy_from_slice(&MAIN);
-    bytes[4096..4108].copy_from_slice(&PUT);
+    let bytes = text(alloc)?;
     let mut functions = Items::new(alloc);
     functions.push(function(alloc, 0, 0))?;
     functions.push(function(alloc, 1, 0))?;

@@ -14,5 +14,5 @@ pub overflow_sub-offset : goal.overflow_sub-offset
 overflow_sub-offset c =
     let text : in_text (groups_of c.args.image.now) c.args.at ≡ true = subst (λ (t : Groups). in_text t c.args.at ≡ true) c.requires.table c.requires.text in
     let starts : start_place c.args.table.now.text (holder_of c.args.image.now c.args.at).at ≤ c.args.at =
-        subst (λ (t : Groups). start_place t.text (holder_of c.args.image.now c.args.at).at ≤ c.args.at) (sym c.requires.table) (holder-starts c.args.image.now c.args.at c.requires.image text) in
+    subst (λ (t : Groups). start_place t.text (holder_of c.args.image.now c.args.at).at ≤ c.args.at) (sym c.requires.table) (holder-starts c.args.image.now c.args.at c.requires.image text) in
     rw (c.offset.view_is, c.at.view_is, c.start_place.ensures, c.holder-function.ensures) starts

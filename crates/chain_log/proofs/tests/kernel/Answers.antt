@@ -11,7 +11,7 @@ returns-clause-image c =
     let bytes : bytes_of c.of.result ≡ c.in_ok-bytes.bytes.items = c.of.ensures.bytes ∙ c.in_ok-from_vec.ensures in
     let long : length c.in_ok-bytes.bytes.items ≡ 8192 = omega (arith, c.in_ok-bytes.ensures.len) in
     let starts : starts_of c.push-3.new.self ≡ three_starts =
-        rw (c.in_ok-push-3.ensures.ok, c.in_ok-push-2.ensures.ok, c.in_ok-push.ensures.ok, c.new-functions.ensures, c.in_ok-function.ensures, c.in_ok-function-2.ensures, c.in_ok-function-3.ensures) refl in
+    rw (c.in_ok-push-3.ensures.ok, c.in_ok-push-2.ensures.ok, c.in_ok-push.ensures.ok, c.new-functions.ensures, c.in_ok-function.ensures, c.in_ok-function-2.ensures, c.in_ok-function-3.ensures) refl in
     image-good _ two_pages c.in_ok-bytes.bytes.items three_starts spans bytes starts c.new.ensures (two-ranges c.in_ok-bytes.bytes.items long) two-inside
     (refl, (omega arith, refl, (omega arith, refl, omega arith))) two-heads (omega arith) refl refl
 

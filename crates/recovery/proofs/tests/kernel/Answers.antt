@@ -19,6 +19,6 @@ returns-clause-image c =
     let bytes : bytes_of c.of.result ≡ c.in_ok-bytes.bytes.items = c.of.ensures.bytes ∙ c.in_ok-from_vec.ensures in
     let long : length c.in_ok-bytes.bytes.items ≡ 4096 = omega (arith, c.in_ok-bytes.ensures.len) in
     let starts : starts_of c.push-2.new.self ≡ first_starts offsets =
-        rw (c.in_ok-push-2.ensures.ok, c.in_ok-push.ensures.ok, c.new-functions.ensures, c.function.ensures, c.function-2.ensures) refl in
+    rw (c.in_ok-push-2.ensures.ok, c.in_ok-push.ensures.ok, c.new-functions.ensures, c.function.ensures, c.function-2.ensures) refl in
     image-good _ page c.in_ok-bytes.bytes.items (first_starts offsets) spans bytes starts c.new.ensures (one-range 1 c.in_ok-bytes.bytes.items (omega arith) (omega arith) long)
     (first-inside 1 offsets (omega arith) (refl, (omega arith, refl, omega arith))) (refl, (omega arith, refl, omega arith)) (λ n within. first-heads page offsets 4096 n (refl, (omega arith, refl, omega arith)) within) (omega arith) refl refl
