@@ -17,9 +17,9 @@ use Rattle.command_frame.specs.declared.product.Refusal.TheVariants as no
 
 differs : (q name : List ℕ) → q ≢ name → bytes_eq q name ≡ false
 differs q name other = elim (bytes_eq q name) as (λ v. bytes_eq q name ≡ v → v ≡ false) [
-    | true ↦ λ e. absurd (other ((bytes_eq-Decides q name).0 e))
-    | false ↦ λ e. refl
-  ] refl
+  | true ↦ λ e. absurd (other ((bytes_eq-Decides q name).0 e))
+  | false ↦ λ e. refl
+] refl
 
 holding-other : (name bytes : List ℕ) (files : Files) (q : List ℕ) → q ≢ name → file_at q (holding name bytes files) ≡ file_at q files
 holding-other name bytes None q other = refl
@@ -85,7 +85,7 @@ module _ (r : Request) (b : Outside) (a : Outside) where
   answered reads (Err (no.Fault why)) x said counts outputs k =
       let same : a ≡ b = k.1 ∙ ap (λ (n : Faults). record b { reads = n }) counts in
       elim k.0 [
-        inl e ↦ subst (IsAnswer r b a) (sym e) (record { said = said; reads = ap (λ (o : Outside). o.reads) same; writes = ap (λ (o : Outside). o.writes) same; puts = ap (λ (o : Outside). o.puts) same; kept = record { files = ap (λ (o : Outside). o.files) same; out = ap (λ (o : Outside). o.out) same } })
+        | inl e ↦ subst (IsAnswer r b a) (sym e) (record { said = said; reads = ap (λ (o : Outside). o.reads) same; writes = ap (λ (o : Outside). o.writes) same; puts = ap (λ (o : Outside). o.puts) same; kept = record { files = ap (λ (o : Outside). o.files) same; out = ap (λ (o : Outside). o.out) same } })
         | inr e ↦ subst (IsAnswer r b a) (sym e) (record { said = λ at told. tt; reads = ap (λ (o : Outside). o.reads) same; writes = ap (λ (o : Outside). o.writes) same; puts = ap (λ (o : Outside). o.puts) same; kept = record { files = ap (λ (o : Outside). o.files) same; out = ap (λ (o : Outside). o.out) same } })
       ]
   answered reads (Err (no.Unread n)) x said counts outputs k = subst (IsAnswer r b a) (sym k.0) (record {

@@ -27,7 +27,10 @@ fn write_files<S: Store>(store: &mut S, words: &[String], files: &[Written]) -> 
     ensures reads { S.reads store.new ≡ S.reads store.old }
 {
     for file in files {
-        if store.write(word_at(words, file.word), file.bytes.as_slice()).is_err() {
+        if store
+            .write(word_at(words, file.word), file.bytes.as_slice())
+            .is_err()
+        {
             return Err(file.word);
         }
     }

@@ -218,8 +218,18 @@ fn products_are_written_in_order_and_told(rt: HostRuntime) -> Result<(), Fail> {
         store.room(alloc, "second", None, 16)?;
         let mut out = MemSink::new(alloc, 16, vec![in alloc; (row.out, 2)]?)?;
         let mut err = MemSink::new(alloc, 64, Vec::new(alloc))?;
-        let told = finish(alloc, &words, made(alloc, &row.makes)?, &mut store, &mut out);
-        assert_eq!(rt; tell(&mut err, &words, &told), row.status, "{label}: status");
+        let told = finish(
+            alloc,
+            &words,
+            made(alloc, &row.makes)?,
+            &mut store,
+            &mut out,
+        );
+        assert_eq!(rt;
+            tell(&mut err, &words, &told),
+            row.status,
+            "{label}: status"
+        );
         assert!(rt; err.bytes() == row.line, "{label}: line");
         assert!(rt; store.bytes("first") == row.first, "{label}: first file");
         assert!(rt; store.bytes("second") == row.second, "{label}: second file");

@@ -99,9 +99,7 @@ fn ends_by(end: u64, place: u64, size: u64) -> bool
 fn parts_end_by(end: u64, parts: &[(u64, PartBytes)]) -> bool
     ensures { result ≡ list_all (λ part. ends_by end part.0 (length part.1)) parts.now }
 {
-    parts
-        .iter()
-        .all(|part| ends_by(end, part.0, part.1.len()))
+    parts.iter().all(|part| ends_by(end, part.0, part.1.len()))
 }
 
 fn ranges_end_by(end: u64, ranges: &[Span]) -> bool

@@ -109,7 +109,10 @@ fn read_named(alloc: Global, value: &Value) -> Result<Option<NamedPlace>, NoMemo
         return Ok(None);
     };
     match name_bytes(alloc, name)? {
-        Some(name) => Ok(Some(NamedPlace { place: Gpa(place), name })),
+        Some(name) => Ok(Some(NamedPlace {
+            place: Gpa(place),
+            name,
+        })),
         None => Ok(None),
     }
 }
@@ -224,7 +227,10 @@ fn has_key(value: &Value, key: &str) -> bool
 fn is_known(value: &Value) -> bool
     ensures { result ≡ is_known (view value.now) }
 {
-    has_only(value, &["code", "base", "entry", "text", "data", "functions"])
+    has_only(
+        value,
+        &["code", "base", "entry", "text", "data", "functions"],
+    )
 }
 
 /// What the value lays out with this code and entry, or the first further key of another form.

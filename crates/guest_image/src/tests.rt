@@ -181,8 +181,14 @@ fn faults_of_code_in_pieces_come_by_name(rt: HostRuntime) -> Result<(), Fail> {
         ("\"code\":[],\"base\":null,\"text\":null", "21 Shape base"),
         ("\"code\":[],\"entry\":null,\"text\":null", "21 Shape entry"),
         ("\"code\":[],\"text\":null,\"data\":null", "21 Shape text"),
-        ("\"code\":[],\"data\":null,\"functions\":null", "21 Shape data"),
-        ("\"code\":[],\"functions\":null,\"more\":0", "21 Shape functions"),
+        (
+            "\"code\":[],\"data\":null,\"functions\":null",
+            "21 Shape data",
+        ),
+        (
+            "\"code\":[],\"functions\":null,\"more\":0",
+            "21 Shape functions",
+        ),
         ("\"code\":[],\"more\":0", "21 Shape other"),
         ("\"code\":[[2147483648,\"01\"],[0,\"\"]]", "4 NoText"),
         (
@@ -197,8 +203,14 @@ fn faults_of_code_in_pieces_come_by_name(rt: HostRuntime) -> Result<(), Fail> {
             "\"code\":[[2147500032,\"01\"],[2147495936,\"01\"],[2147491840,\"01\"],[2147483648,\"01\"]]",
             "ok",
         ),
-        ("\"code\":[[2147483648,\"01\"],[2147483648,\"01\"]]", "7 Misplaced"),
-        ("\"code\":[[2147483648,\"01\"],[2147491842,\"01\"]]", "7 Misplaced"),
+        (
+            "\"code\":[[2147483648,\"01\"],[2147483648,\"01\"]]",
+            "7 Misplaced",
+        ),
+        (
+            "\"code\":[[2147483648,\"01\"],[2147491842,\"01\"]]",
+            "7 Misplaced",
+        ),
         (
             "\"code\":[[2147483648,\"01\"],[2147491840,\"01\"]],\"data\":[[2147491842,\"01\"]]",
             "7 Misplaced",
@@ -219,10 +231,7 @@ fn faults_of_code_in_pieces_come_by_name(rt: HostRuntime) -> Result<(), Fail> {
             "\"code\":[[2147491840,\"01\"],[2147500032,\"01\"]]",
             "11 EntryOutside",
         ),
-        (
-            "\"code\":[[2147491840,\"01\"],[2147483648,\"01\"]]",
-            "ok",
-        ),
+        ("\"code\":[[2147491840,\"01\"],[2147483648,\"01\"]]", "ok"),
     ] {
         let file = format!(in alloc; "{{\"entry\":2147483648,{members}}}")?;
         let got = image_answer(alloc, file.as_bytes())?;
@@ -256,7 +265,11 @@ fn elf_files_come_by_their_bytes(rt: HostRuntime) -> Result<(), Fail> {
     }
     for length in 0..good.len() {
         let got = image_answer(alloc, &good.as_slice()[..length])?;
-        let want = if length < 4 { "20 NotJson" } else { "3 Truncated" };
+        let want = if length < 4 {
+            "20 NotJson"
+        } else {
+            "3 Truncated"
+        };
         assert_eq!(rt; got.as_str(), want, "{length} bytes of it");
     }
     Ok(())

@@ -36,7 +36,11 @@ const STVEC_BASE: u64 = 0xffff_ffff_ffff_fffc;
 fn status_in_trap(status: u64, mode: Mode) -> u64
     ensures { result ≡ trap_status status mode }
 {
-    let spie = if has_bit(status, SIE_BIT) { STATUS_SPIE } else { 0 };
+    let spie = if has_bit(status, SIE_BIT) {
+        STATUS_SPIE
+    } else {
+        0
+    };
     let spp = match mode {
         Mode::Vs => STATUS_SPP,
         Mode::Vu => 0,
@@ -47,7 +51,11 @@ fn status_in_trap(status: u64, mode: Mode) -> u64
 fn status_after(status: u64) -> u64
     ensures { result ≡ return_status status }
 {
-    let sie = if has_bit(status, SPIE_BIT) { STATUS_SIE } else { 0 };
+    let sie = if has_bit(status, SPIE_BIT) {
+        STATUS_SIE
+    } else {
+        0
+    };
     (status & STATUS_OTHERS) | sie | STATUS_SPIE
 }
 

@@ -67,12 +67,12 @@ module _ (X : Type 0) (K : Type 0) (key : X → K) (R : K → K → Ordering) (t
   same-members (x ∷ xs) [] u v to from = absurd (to x (inl refl))
   same-members (x ∷ xs) (y ∷ ys) u v to from =
       let head : x ≡ y = elim (to x (inl refl)) [
-        inl e ↦ e
+        | inl e ↦ e
         | inr i ↦ elim (from y (inl refl)) [ inl e ↦ sym e | inr j ↦ absurd (not-both (key x) (key y) (above x y xs u.0 j) (above y x ys v.0 i)) ]
       ] in
       let rest : xs ≡ ys = same-members xs ys u.1 v.1
-        (λ z i. elim (to z (inr i)) [ inl e ↦ absurd (not-itself x z (e ∙ sym head) (above x z xs u.0 i)) | inr k ↦ k ])
-        (λ z i. elim (from z (inr i)) [ inl e ↦ absurd (not-itself y z (e ∙ head) (above y z ys v.0 i)) | inr k ↦ k ]) in
+      (λ z i. elim (to z (inr i)) [ inl e ↦ absurd (not-itself x z (e ∙ sym head) (above x z xs u.0 i)) | inr k ↦ k ])
+      (λ z i. elim (from z (inr i)) [ inl e ↦ absurd (not-itself y z (e ∙ head) (above y z ys v.0 i)) | inr k ↦ k ]) in
       rw (head, rest) refl
 
   alls : (P : K → Type 0) (xs : List X) → AllByRecursion P (map key xs) → AllByRecursion (λ y. P (key y)) xs
@@ -105,9 +105,9 @@ in-from n (x ∷ xs) has =
 in-to : (n : Start) (xs : List Start) → In n xs → contains xs n ≡ true
 in-to n [] i = absurd i
 in-to n (x ∷ xs) i = elim i [
-    inl e ↦ let same : is_same n x ≡ true = subst (λ y. is_same n y ≡ true) e (start_itself n) in ap (λ b. b || contains xs n) same
-    | inr i ↦ let rest : contains xs n ≡ true = in-to n xs i in rw rest (or_true (is_same n x))
-  ]
+  | inl e ↦ let same : is_same n x ≡ true = subst (λ y. is_same n y ≡ true) e (start_itself n) in ap (λ b. b || contains xs n) same
+  | inr i ↦ let rest : contains xs n ≡ true = in-to n xs i in rw rest (or_true (is_same n x))
+]
 
 one-order : (given xs ys : List Start) → IsInOrder given xs → IsInOrder given ys → xs ≡ ys
 one-order given xs ys a b = same-members Start Start (λ n. n) start_cmp starts_ordered xs ys
@@ -134,9 +134,9 @@ one-found (w ∷ ws) (x ∷ f) (y ∷ g) p q = rw (one-app w x y p.0 q.0, one-fo
 to-contains : (x : App) (xs : List App) → In x xs → Contains xs x
 to-contains x [] i = absurd i
 to-contains x (y ∷ ys) i = elim i [
-    inl e ↦ (0, omega arith, sym e)
-    | inr i ↦ let there = to-contains x ys i in (suc there.0, omega (arith, there.1), there.2)
-  ]
+  | inl e ↦ (0, omega arith, sym e)
+  | inr i ↦ let there = to-contains x ys i in (suc there.0, omega (arith, there.1), there.2)
+]
 
 from-contains : (x : App) (xs : List App) (k : ℕ) → k < length xs → slice_index_or xs k x ≡ x → In x xs
 from-contains x [] k within is = absurd (omega (arith, within))
@@ -238,9 +238,9 @@ one-late w i f NoMemory a b = absurd b
 one-reading : (bytes : List ℕ) (i : Image) (f g : ViewFault) → f ≢ NoMemory → g ≢ NoMemory → Reads bytes i (Err f) → Reads bytes i (Err g) → f ≡ g
 one-reading bytes i f g other another a b =
     elim (when-refused bytes i f other a) [
-      inl x ↦ elim (when-refused bytes i g another b) [ inl y ↦ cc (sym x ∙ y) | inr y ↦ absurd (cc (sym x ∙ y.1)) ]
+      | inl x ↦ elim (when-refused bytes i g another b) [ inl y ↦ cc (sym x ∙ y) | inr y ↦ absurd (cc (sym x ∙ y.1)) ]
       | inr x ↦ elim (when-refused bytes i g another b) [
-        inl y ↦ absurd (cc (sym x.1 ∙ y))
+        | inl y ↦ absurd (cc (sym x.1 ∙ y))
         | inr y ↦ let same : x.0 ≡ y.0 = cc (sym x.1 ∙ y.1) in one-late y.0 i f g (subst (λ w. IsLate w i f) same x.2) y.2
       ]
     ]

@@ -12,4 +12,4 @@ invariant-loop-range l =
 abbrev pub invariant-loop-function : goal.invariant-loop-function
 invariant-loop-function l =
     Holds256 l.hasher (if_several (has_several (spans_of l.kernel.ranges)) (length (spans_of l.kernel.ranges)) ++ flat_map place_bytes (spans_of l.kernel.ranges)
-      ++ eight (length l.kernel.functions) ++ flat_map (start_bytes (has_several (spans_of l.kernel.ranges))) (take l.function-index l.function-items))
+    ++ eight (length l.kernel.functions) ++ flat_map (start_bytes (has_several (spans_of l.kernel.ranges))) (take l.function-index l.function-items))
