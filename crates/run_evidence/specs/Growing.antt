@@ -1,6 +1,7 @@
 -- Boards and views of a run, and what stays true of schedules and logs when they grow at their ends.
 use Rattle.std.specs.Prelude.{◌≡◌, ℕ, ◌+◌, ◌<◌, ◌≤◌, true, false, Some, List, [], ◌∷◌, ◌++◌, length}
 use Rattle.chain_log.specs.declared.entry.LogEntry.{LogEntry}
+use Rattle.guest_input.specs.Text.{bytes_of}
 use Rattle.function_table.specs.Groups.{group_at}
 use Rattle.view_file.specs.Base.{base_of}
 use Rattle.view_store.specs.Paged.{PagedView}
@@ -22,7 +23,7 @@ views_count c = length c.views.apps + 1
 
 -- view v with this log
 abbrev pub paged_at : Config → ℕ → List LogEntry → PagedView
-paged_at c v log = record { number = v; text = c.image.text; groups = groups_in c; base = base_of c.views (groups_in c) v; log = log }
+paged_at c v log = record { number = v; text = bytes_of c.image.ranges; groups = groups_in c; base = base_of c.views (groups_in c) v; log = log }
 
 -- each fetch of text from step `from` on is of a group in the base of its view, or logged for it at or before that step
 abbrev pub IsAllowedFrom : Config → List (List LogEntry) → List ℕ → ℕ → Type 0
