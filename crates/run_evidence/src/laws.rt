@@ -16,13 +16,11 @@ pub fn allowed_fetches_stay()
 {}
 
 /// One more step of the schedule is one step of the board.
-#[tactic(auto, using(crate::proofs::Growing::boards_move))]
 pub fn boards_move()
     ensures { BoardsMove }
 {}
 
 /// A lawful schedule with one more step that exists is lawful.
-#[tactic(auto, using(crate::proofs::Growing::lawful_grows))]
 pub fn lawful_schedules_grow()
     ensures { LawfulGrows }
 {}
@@ -33,13 +31,11 @@ pub fn fronts_are_lawful()
 {}
 
 /// A vCPU that may not step may not after further steps.
-#[tactic(auto, using(crate::proofs::Growing::stopped_stays))]
 pub fn stopped_vcpus_stay()
     ensures { StoppedStays }
 {}
 
 /// All fetches are allowed exactly where those from step 0 on are.
-#[tactic(auto, using(crate::proofs::Growing::allowed_is_from_start))]
 pub fn allowed_is_from_the_start()
     ensures { AllowedIsFromStart }
 {}
@@ -50,13 +46,11 @@ pub fn later_fetches_stay()
 {}
 
 /// Fetches that are allowed from a step on stay so after one more step whose fetch is allowed.
-#[tactic(auto, using(crate::proofs::Growing::allowed_from_grows))]
 pub fn later_fetches_grow()
     ensures { AllowedFromGrows }
 {}
 
 /// All fetches are allowed where those of a front part are, and those after it.
-#[tactic(auto, using(crate::proofs::Growing::allowed_joins))]
 pub fn allowed_fetches_join()
     ensures { AllowedJoins }
 {}
