@@ -2,6 +2,7 @@
 -- Word 0 and slot 0 are the board's, word k + 1 and slot k + 1 those of view k. A word is 0 while its value is at home
 -- in the slot, and 1 while one pass holds it.
 use Rattle.std.specs.Prelude.{◌≡◌, ℕ, zero, suc, ◌<◌, ◌≤◌, ◌==◌, Bool, true, false, if◌then◌else◌, Option, Some, None, List, [], ◌∷◌, length, map, slice_index, slice_index_or}
+use Rattle.fc_numbers.specs.declared.machine.GKind.TheVariants.{Sv39x4}
 use Rattle.guest_input.specs.declared.image.Image.{Image}
 use Rattle.guest_input.specs.declared.setup.Setup.{Setup}
 use Rattle.view_file.specs.declared.views.Views.{Views}
@@ -55,10 +56,10 @@ pub record IsTruthful (c : Config) (schedule : List ℕ) (logs : List Log) (v : 
   pub has_view : (k : ℕ) → v.holds ≡ Some (suc k) → log_in v.logs k ≡ log_in logs k
 
 abbrev pub no_image : Image
-no_image = record { base = 0; entry = 0; text = []; parts = []; functions = []; digest = [] }
+no_image = record { entry = 0; ranges = []; parts = []; functions = []; digest = [] }
 
 abbrev pub no_setup : Setup
-no_setup = record { vcpus = 0; ram = 0; steps = 0; hook = None; name_at = 0; start = None; events = [] }
+no_setup = record { vcpus = 0; ram = 0; steps = 0; hook = None; name_at = 0; start = None; events = []; gstage = Sv39x4 }
 
 abbrev pub no_views : Views
 no_views = record { text = []; shared = []; apps = [] }
