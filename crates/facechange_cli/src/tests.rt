@@ -156,11 +156,7 @@ fn kernels_run_as_worked_out(rt: HostRuntime) -> Result<(), Fail> {
 fn traps_and_control_registers_are_the_manuals(rt: HostRuntime) -> Result<(), Fail> {
     let alloc = rt.alloc();
     for row in programs() {
-        let mut digits = String::new(alloc);
-        for piece in row.text {
-            add(&mut digits, *piece)?;
-        }
-        let image = image_of(alloc, digits.as_str(), row.more)?;
+        let image = image_of(alloc, row.text, row.more)?;
         let views = views_of(alloc, image.as_bytes(), "", "")?;
         let came = call(
             alloc,
