@@ -2,7 +2,6 @@
 
 ghost use Rattle.std.specs.Prelude.{◌≡◌, IfOk, length};
 
-use super::cache::WalkCache;
 use super::*;
 use fc_numbers::memory::NoMemory;
 use fc_numbers::places::{RAM_START, Span};
@@ -255,53 +254,6 @@ fn four_levels_are_read_where_satp_has_mode_9(rt: HostRuntime) -> Result<(), Fai
         ram.place(Gpa(RAM_START + 4 * PAGE + 24), &leaf.to_le_bytes());
         let got = walk(&ram, satp, Mode::Vs, false, false, Access::Load, Va(va));
         assert_eq!(rt; got, want, "{name}");
-    }
-    Ok(())
-}
-
-/// Memory whose tables map the pages 0x80000000 and 0x80001000 to the first page, which is text, in three levels.
-fn mapped_twice(alloc: Global) -> Result<GuestRam, NoMemory> {
-    let mut text = Spans::new();
-    text.push(Span {
-        start: Gpa(RAM_START),
-        end: Gpa(RAM_START + PAGE),
-    });
-    let mut ram = GuestRam::new(alloc, 16 * PAGE, text)?;
-    for (at, pte) in [
-        (0x8000_2010, 0x2000_0c01_u64),
-        (0x8000_3000, 0x2000_1001),
-        (0x8000_4000, 0x2000_004b),
-        (0x8000_4008, 0x2000_004b),
-    ] {
-        ram.place(Gpa(at), &pte.to_le_bytes());
-    }
-    Ok(ram)
-}
-
-#[test]
-fn kept_answer_is_dropped_where_a_table_entry_was_stored_to(rt: HostRuntime) -> Result<(), Fail> {
-    let mut ram = mapped_twice(rt.alloc())?;
-    let mut cache = WalkCache::new();
-    let satp = 0x8000_0000_0008_0002;
-    let text = Walked::At(Gpa(RAM_START));
-    for (name, stored, first, second) in [
-        ("at first", None, text, text),
-        ("a leaf set to 0", Some(0), text, Walked::PageFault),
-        ("the leaf set back", Some(0x2000_004b), text, text),
-    ] {
-        if let Some(pte) = stored {
-            let done = ram.store(Gpa(0x8000_4008), Width::Doubleword, pte);
-            assert_eq!(rt; done, Ok(()), "{name}");
-        }
-        for (va, want) in [
-            (RAM_START, first),
-            (RAM_START + PAGE, second),
-            (RAM_START, first),
-            (RAM_START + PAGE, second),
-        ] {
-            let got = cache.cached_walk(&ram, satp, Mode::Vs, false, false, Access::Fetch, Va(va));
-            assert_eq!(rt; got, want, "{name}: {va:#x}");
-        }
     }
     Ok(())
 }
