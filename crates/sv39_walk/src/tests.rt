@@ -188,14 +188,24 @@ const SATP_SV48: u64 = 0x9000_0000_0008_0000;
 /// Entry 5 at level 3, entry 1 at level 2, entry 2 at level 1, entry 3 at level 0.
 const VA_SV48: u64 = 0x0280_4040_3123;
 
+/// Memory in which the walk of `VA_SV48` begins with this entry at level 3, and can go on to level 0.
+fn deep_tables(alloc: Global, at_level_3: u64) -> Result<GuestRam, NoMemory> {
+    let leaf: u64 = 0x1_2345 << 10 | V | R | A;
+    let to_level_1: u64 = 0x8_0002 << 10 | V;
+    let to_level_0: u64 = 0x8_0004 << 10 | V;
+    let mut ram = empty_memory(alloc)?;
+    ram.place(Gpa(RAM_START + 8 * 5), &at_level_3.to_le_bytes());
+    ram.place(Gpa(RAM_START + PAGE + 8), &to_level_1.to_le_bytes());
+    ram.place(Gpa(RAM_START + 2 * PAGE + 16), &to_level_0.to_le_bytes());
+    ram.place(Gpa(RAM_START + 4 * PAGE + 24), &leaf.to_le_bytes());
+    Ok(ram)
+}
+
 #[test]
 fn four_levels_are_read_where_satp_has_mode_9(rt: HostRuntime) -> Result<(), Fail> {
-    let leaf: u64 = 0x1_2345 << 10 | V | R | A;
     let huge: u64 = 0x800_0000 << 10 | V | R | A;
     let huge_misaligned: u64 = 0x804_0000 << 10 | V | R | A;
     let to_level_2: u64 = 0x8_0001 << 10 | V;
-    let to_level_1: u64 = 0x8_0002 << 10 | V;
-    let to_level_0: u64 = 0x8_0004 << 10 | V;
     for (name, at_level_3, satp, va, want) in [
         (
             "four entries",
@@ -205,11 +215,11 @@ fn four_levels_are_read_where_satp_has_mode_9(rt: HostRuntime) -> Result<(), Fai
             Walked::At(Gpa(0x1234_5123)),
         ),
         (
-            "a leaf of 512 GiB",
+            "512 GiB",
             huge,
             SATP_SV48,
             VA_SV48,
-            Walked::At(Gpa(0x80_0000_0000 + 0x4040_3123)),
+            Walked::At(Gpa(0x80_4040_3123)),
         ),
         (
             "a leaf that is not aligned",
@@ -240,18 +250,14 @@ fn four_levels_are_read_where_satp_has_mode_9(rt: HostRuntime) -> Result<(), Fai
             Walked::PageFault,
         ),
         (
-            "an address too wide for three levels",
+            "too wide for three levels",
             to_level_2,
             SATP,
             VA_SV48,
             Walked::PageFault,
         ),
     ] {
-        let mut ram = empty_memory(rt.alloc())?;
-        ram.place(Gpa(RAM_START + 8 * 5), &at_level_3.to_le_bytes());
-        ram.place(Gpa(RAM_START + PAGE + 8), &to_level_1.to_le_bytes());
-        ram.place(Gpa(RAM_START + 2 * PAGE + 16), &to_level_0.to_le_bytes());
-        ram.place(Gpa(RAM_START + 4 * PAGE + 24), &leaf.to_le_bytes());
+        let ram = deep_tables(rt.alloc(), at_level_3)?;
         let got = walk(&ram, satp, Mode::Vs, false, false, Access::Load, Va(va));
         assert_eq!(rt; got, want, "{name}");
     }
