@@ -10,12 +10,12 @@ use Rattle.fc_numbers.specs.declared.machine.Access.TheVariants.{Load}
 use Rattle.fc_numbers.specs.declared.machine.Width.TheVariants.{Byte}
 use Rattle.guest_ram.specs.Ram.{Ram, loaded}
 use Rattle.rv_csr.specs.Csrs.{Csrs}
-use Rattle.sv39_walk.specs.Walk.{place_of, walked_for}
+use Rattle.sv39_walk.specs.Walk.{place_for}
 
 -- the byte that a load in supervisor mode reads at an address; none where the load faults, goes outside memory or meets
 -- a table in text
 unfoldable pub byte_at : Ram → Csrs → ℕ → Option ℕ
-byte_at ram csr va = option_and_then (λ place. result_ok (loaded ram place Byte)) (place_of (walked_for ram csr Vs Load va))
+byte_at ram csr va = option_and_then (λ place. result_ok (loaded ram place Byte)) (place_for ram csr Vs Load va)
 
 -- the address so many bytes after another; after the last address comes the first
 abbrev pub address_after : ℕ → ℕ → ℕ
