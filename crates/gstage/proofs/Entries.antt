@@ -2,7 +2,8 @@
 use Rattle.std.proofs.Common.{◌≡◌, ◌∙◌, ℕ, ◌+◌, ◌*◌, ◌/◌, ◌%◌, ◌^◌, ◌<◌, true, false, List, Some, refl, arith, eqb, ltb, add-zero}
 use Rattle.std.proofs.lemmas.Bool.Decides.{nat_tests}
 use Rattle.gstage.specs.declared.stage.Placed.TheVariants as placed_in
-use Rattle.gstage.specs.Walk.{is_valid, is_leaf, is_pointer, page_of, walked_from}
+use Rattle.gstage.specs.Walk.{is_valid, is_pointer, walked_from}
+use Rattle.page_table.specs.Entry.{is_leaf, ppn}
 use Rattle.gstage.specs.Map.{text_leaf, ram_leaf}
 use Rattle.gstage.specs.Layout.{pointer_to, text_entry, ram_entry, placed_by}
 use Rattle.gstage.proofs.Steps.{walked-leaf}
@@ -28,7 +29,7 @@ bit-6 p f = omega arith
 bit-7 : (p f : ℕ) → (p * 1024 + f) / 128 % 2 ≡ f / 128 % 2
 bit-7 p f = omega arith
 
-page : (p f : ℕ) → p < 2 ^ 44 → f < 1024 → page_of (p * 1024 + f) ≡ p
+page : (p f : ℕ) → p < 2 ^ 44 → f < 1024 → ppn (p * 1024 + f) ≡ p
 page p f few flags = omega arith
 
 low : (p f : ℕ) → p < 2 ^ 44 → f < 1024 → ltb (p * 1024 + f) (2 ^ 54) ≡ true
@@ -46,7 +47,7 @@ pointer-no_leaf t = rw (bit-1 t 1, bit-3 t 1) refl
 pub pointer-pointer : (t : ℕ) → is_pointer (pointer_to t) ≡ true
 pointer-pointer t = rw (bit-4 t 1, bit-6 t 1, bit-7 t 1) refl
 
-pub pointer-page : (t : ℕ) → t < 2 ^ 44 → page_of (pointer_to t) ≡ t
+pub pointer-page : (t : ℕ) → t < 2 ^ 44 → ppn (pointer_to t) ≡ t
 pointer-page t few = page t 1 few (omega arith)
 
 text-valid : (p : ℕ) → p < 2 ^ 44 → is_valid (text_entry p) ≡ true

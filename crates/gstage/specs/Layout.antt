@@ -9,9 +9,9 @@ use Rattle.fc_numbers.specs.Spans.{in_text}
 use Rattle.gstage.specs.declared.stage.Placed.{Placed}
 use Rattle.gstage.specs.declared.stage.Placed.TheVariants as placed_in
 use Rattle.gstage.specs.declared.table.TheConstants.{ROOT, ROOT_PAGES, TABLE, LEAF_TABLES, TEXT_PAGES, VIEW_PAGES, RAM_GIB, PTE_PPN, POINTER, TEXT_LEAF, RAM_LEAF}
-use Rattle.gstage.specs.declared.walk.TheConstants.{PTE_W}
+use Rattle.page_table.specs.declared.TheConstants.{PTE_W}
+use Rattle.page_table.specs.Entry.{has_bit}
 use Rattle.gstage.specs.Stage.{in_span}
-use Rattle.gstage.specs.Walk.{has_bit}
 use Rattle.gstage.specs.Map.{page_in}
 use Rattle.gstage.specs.Table.{pages_of}
 

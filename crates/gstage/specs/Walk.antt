@@ -5,29 +5,21 @@ use Rattle.std.proofs.Common.{zero, suc}
 use Rattle.fc_numbers.specs.declared.machine.GKind.{GKind}
 use Rattle.fc_numbers.specs.declared.machine.GKind.TheVariants.{Sv39x4, Sv48x4}
 use Rattle.gstage.specs.declared.walk.Leaf.{Leaf}
-use Rattle.gstage.specs.declared.walk.TheConstants.{PTE_V, PTE_R, PTE_W, PTE_X, PTE_U, PTE_A, PTE_D}
-
-abbrev pub has_bit : ℕ → ℕ → Bool
-has_bit entry bit = entry / 2 ^ bit % 2 == 1
+use Rattle.page_table.specs.declared.TheConstants.{PTE_V, PTE_R, PTE_W, PTE_X, PTE_U, PTE_A, PTE_D}
+use Rattle.page_table.specs.Entry.{has_bit, is_leaf, ppn}
+use Rattle.page_table.specs.Level.{index_at}
 
 -- V = 1, not W without R, and the ten highest bits are zero
 abbrev pub is_valid : ℕ → Bool
 is_valid entry = has_bit entry PTE_V && not (has_bit entry PTE_W && not (has_bit entry PTE_R)) && nat_lt entry (2 ^ 54)
 
-abbrev pub is_leaf : ℕ → Bool
-is_leaf entry = has_bit entry PTE_R || has_bit entry PTE_X
-
--- the physical page number, bits 10 to 53
-abbrev pub page_of : ℕ → ℕ
-page_of entry = entry / 2 ^ 10 % 2 ^ 44
-
 -- the page that a leaf of a level maps a place to, and what may be done there: a store needs D as well as W
 abbrev pub leaf_of : ℕ → ℕ → ℕ → Leaf
-leaf_of level at entry = record { level = level; page = page_of entry + at / 2 ^ 12 % 512 ^ level; read = has_bit entry PTE_R; write = has_bit entry PTE_W && has_bit entry PTE_D; execute = has_bit entry PTE_X; user = has_bit entry PTE_U }
+leaf_of level at entry = record { level = level; page = ppn entry + at / 2 ^ 12 % 512 ^ level; read = has_bit entry PTE_R; write = has_bit entry PTE_W && has_bit entry PTE_D; execute = has_bit entry PTE_X; user = has_bit entry PTE_U }
 
 -- a leaf is aligned to its size, and has A set
 abbrev pub is_usable : ℕ → ℕ → Bool
-is_usable level entry = has_bit entry PTE_A && (page_of entry % 512 ^ level == 0)
+is_usable level entry = has_bit entry PTE_A && (ppn entry % 512 ^ level == 0)
 
 -- a pointer has none of U, A and D
 abbrev pub is_pointer : ℕ → Bool
@@ -43,7 +35,7 @@ walked_from entries at zero entry =
 walked_from entries at (suc level) entry =
     if is_valid entry then
     if is_leaf entry then leaf_at (suc level) at entry
-    else if is_pointer entry then walked_from entries at level (slice_index entries (512 * page_of entry + at / 2 ^ (12 + 9 * level) % 512))
+    else if is_pointer entry then walked_from entries at level (slice_index entries (512 * ppn entry + index_at level at))
     else None
     else None
 

@@ -9,11 +9,12 @@ ghost use Rattle.gstage.specs.Layout.{page_entry, pointer_to, lower_value, entry
 ghost use Rattle.gstage.specs.Table.{Table, pages_of};
 
 use crate::stage::{Placed, SecondStage};
-use crate::walk::{Leaf, PTE_W, has_bit, walk};
+use crate::walk::{Leaf, walk};
 use fc_numbers::machine::{Access, GKind};
 use fc_numbers::memory::NoMemory;
 use fc_numbers::places::{Gpa, PAGE, RAM_MOST, RAM_START, Span, ViewNo};
 use fc_numbers::spans::{Spans, offset_of};
+use page_table::{PTE_W, has_bit};
 use std::alloc::Global;
 use std::marker::Model;
 

@@ -2,30 +2,10 @@
 //! Page-Based 50-bit Virtual-Memory System").
 
 ghost use Rattle.std.specs.Prelude.{◌≡◌, ◌≤◌, ◌<◌, ◌+◌, ◌*◌, ◌/◌, ◌%◌, ◌^◌, slice_index};
-ghost use Rattle.gstage.specs.Walk.{has_bit, is_valid, is_leaf, is_pointer, page_of, leaf_at, walked_from, walked, top, bits};
+ghost use Rattle.gstage.specs.Walk.{is_valid, is_pointer, leaf_at, walked_from, walked, top, bits};
 
 use fc_numbers::machine::GKind;
-
-/// The entry says something.
-pub const PTE_V: u32 = 0;
-
-/// The page may be loaded from.
-pub const PTE_R: u32 = 1;
-
-/// The page may be stored to.
-pub const PTE_W: u32 = 2;
-
-/// The page may be executed.
-pub const PTE_X: u32 = 3;
-
-/// The page is one of user level.
-pub const PTE_U: u32 = 4;
-
-/// The page was accessed.
-pub const PTE_A: u32 = 6;
-
-/// The page was stored to.
-pub const PTE_D: u32 = 7;
+use page_table::{PTE_A, PTE_D, PTE_R, PTE_U, PTE_V, PTE_W, PTE_X, has_bit, index, is_leaf, page_number};
 
 /// A leaf: the host page that it maps a place to, and what may be done there.
 #[derive(Debug, Clone, Copy, PartialEq, Eq)]
@@ -40,14 +20,6 @@ pub struct Leaf {
     pub user: bool,
 }
 
-/// Whether a bit of the entry is set.
-pub(crate) fn has_bit(entry: u64, bit: u32) -> bool
-    requires { bit < 64 }
-    ensures { result ≡ has_bit entry bit }
-{
-    (entry >> bit) % 2 == 1
-}
-
 /// Whether an entry says anything.
 fn is_valid(entry: u64) -> bool
     ensures { result ≡ is_valid entry }
@@ -55,24 +27,10 @@ fn is_valid(entry: u64) -> bool
     has_bit(entry, PTE_V) && !(has_bit(entry, PTE_W) && !has_bit(entry, PTE_R)) && entry < 1 << 54
 }
 
-fn is_leaf(entry: u64) -> bool
-    ensures { result ≡ is_leaf entry }
-{
-    has_bit(entry, PTE_R) || has_bit(entry, PTE_X)
-}
-
 fn is_pointer(entry: u64) -> bool
     ensures { result ≡ is_pointer entry }
 {
     !(has_bit(entry, PTE_U) || has_bit(entry, PTE_A) || has_bit(entry, PTE_D))
-}
-
-/// The physical page number of an entry.
-fn page_of(entry: u64) -> u64
-    ensures value { result ≡ page_of entry }
-    ensures low { result < 2 ^ 44 }
-{
-    (entry >> 10) % (1 << 44)
 }
 
 /// What is left of a page number where the pages of a leaf of this level are taken away. Each arm divides by a
@@ -95,7 +53,7 @@ fn leaf_at(level: u32, at: u64, entry: u64) -> Option<Leaf>
     requires { level ≤ 3 }
     ensures { result ≡ leaf_at level at entry }
 {
-    let page = page_of(entry);
+    let page = page_number(entry);
     if has_bit(entry, PTE_A) && page_in_leaf(level, page) == 0 {
         Some(Leaf {
             level,
@@ -107,19 +65,6 @@ fn leaf_at(level: u32, at: u64, entry: u64) -> Option<Leaf>
         })
     } else {
         None
-    }
-}
-
-/// The index of a place in a table below the root.
-fn index_of(level: u32, at: u64) -> u64
-    requires { level ≤ 2 }
-    ensures value { result ≡ at / 2 ^ (12 + 9 * level) % 512 }
-    ensures low { result < 512 }
-{
-    match level {
-        0 => (at >> 12) % 512,
-        1 => (at >> 21) % 512,
-        _ => (at >> 30) % 512,
     }
 }
 
@@ -149,7 +94,7 @@ fn walk_from(entries: &[u64], at: u64, level: u32, entry: u64) -> Option<Leaf>
     if level == 0 || !is_pointer(entry) {
         return None;
     }
-    let below = entry_at(entries, 512 * page_of(entry) + index_of(level - 1, at));
+    let below = entry_at(entries, 512 * page_number(entry) + index(at, level as u64 - 1));
     walk_from(entries, at, level - 1, below)
 }
 

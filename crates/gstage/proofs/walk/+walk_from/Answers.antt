@@ -22,5 +22,5 @@ returns-then-level-eq0 t c =
 pub returns : goal.returns
 returns t c =
     let below = walked-below c.args.entries.now c.args.at c.args.level c.args.entry (omega arith) (sym c.if-not-is_valid.ensures) (sym c.if-is_leaf.ensures) (sym c.if-not-is_pointer.ensures) in
-    let read = rw (c.page_of.ensures.value, c.index_of.ensures.value) at c.entry_at-below.ensures in
+    let read = rw (c.page_number.ensures.value, c.index.ensures.value) at c.entry_at-below.ensures in
     c.walk_from.ensures ∙ ap (λ e. walked_from c.args.entries.now c.args.at (c.args.level - 1) e) read ∙ sym below
