@@ -12,7 +12,7 @@ use Rattle.rv_csr.specs.Csrs.{Csrs}
 use Rattle.sv39_walk.specs.Walk.{place_for}
 use Rattle.chain_log.specs.declared.entry.TheConstants.{CHAIN_MOST}
 use Rattle.chain_log.specs.declared.chain.Frame.{Frame}
-use Rattle.chain_log.specs.declared.chain.TheConstants.{RA, FP}
+use Rattle.fc_numbers.specs.declared.regs.TheConstants.{RA, FP}
 
 -- the place in text that an address is executed from
 unfoldable pub code_at : Ram → Csrs → Mode → ℕ → Option ℕ

@@ -8,16 +8,10 @@ use crate::entry::{CHAIN_MOST, Chain};
 use arrayvec::ArrayVec;
 use fc_numbers::machine::{Access, Mode, Width};
 use fc_numbers::places::{Gpa, Va};
-use fc_numbers::regs::Regs;
+use fc_numbers::regs::{FP, RA, Regs};
 use guest_ram::GuestRam;
 use rv_csr::CsrFile;
 use sv39_walk::place_for;
-
-/// The register of the return address.
-pub const RA: u8 = 1;
-
-/// The register of the frame pointer.
-pub const FP: u8 = 8;
 
 /// What a frame holds: the place in text of the return address that it saved, and the frame pointer that it saved.
 #[derive(Clone, Copy)]
