@@ -60,6 +60,10 @@ FitsSlot ram (Some k) = FitsOne ram k
 abbrev pub Fits : Ram → List (Option Kept) → Type 0
 Fits ram slots = All (FitsSlot ram) slots
 
+-- every cache that fits the one memory fits the other
+abbrev pub KeepsFits : Ram → Ram → Type 0
+KeepsFits old new = (slots : List (Option Kept)) → Fits old slots → Fits new slots
+
 -- a cache that keeps nothing
 abbrev pub empty_cache : List (Option Kept)
 empty_cache = replicate CACHE_MOST None
