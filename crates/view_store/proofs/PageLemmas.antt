@@ -4,17 +4,18 @@ use Rattle.std.proofs.lemmas.List.{get_or_past}
 use Rattle.std.proofs.lemmas.List.FromFn.{fill_by_all, get_or-map-range_with_len, length-map-range_with_len}
 use borrow.Author.Tests.{ltb-true, ltb-false}
 use Rattle.std.proofs.lemmas.List.Sums.{count_by-le-length, sum_by-set}
-use Rattle.std.specs.Prelude.{◌==◌, ◌||◌, ◌&&◌, nat_le, nat_lt, if◌then◌else◌, slice_index, slice_index_or, slice_set, count_by, not}
+use Rattle.std.specs.Prelude.{◌==◌, ◌||◌, ◌&&◌, nat_le, nat_lt, if◌then◌else◌, slice_index, slice_index_or, slice_set, count_by, not, drop, take}
 use Rattle.std.proofs.lemmas.Grind.{common_steps}
 use Rattle.std.proofs.lemmas.Bool.Decides.{nat_tests}
 use Rattle.fc_numbers.specs.declared.places.Span.{Span}
 use Rattle.fc_numbers.specs.declared.places.TheConstants.{RAM_START}
-use Rattle.fc_numbers.specs.Spans.{AreRangesFrom, offset_in, place_in, size_of, text_size}
-use Rattle.fc_numbers.proofs.TextLaws.{offset_page, offset_place, size_pages}
+use Rattle.fc_numbers.specs.Spans.{AreRangesFrom, end_in, offset_in, place_in, size_of, text_size}
+use Rattle.fc_numbers.specs.declared.window.Window.{Window}
+use Rattle.fc_numbers.proofs.TextLaws.{end_near, offset_page, offset_place, size_pages}
 use Rattle.function_table.specs.Groups.{Groups, IsGroups, IsRangeOf, first_of, group_in, groups_count, half_of, in_text, is_between, range_of}
 use Rattle.function_table.proofs.GroupLemmas.{ends-within}
 use Rattle.chain_log.specs.declared.entry.LogEntry.{LogEntry}
-use Rattle.view_store.specs.Paged.{PagedView, masked, logged, patched, is_present, is_logged, AreMissed, IsLawfulView, mask_of}
+use Rattle.view_store.specs.Paged.{PagedView, masked, logged, patched, is_present, is_logged, AreMissed, IsLawfulView, WindowsAreOfTheMask, mask_of, window_of}
 
 -- halfwords past the end of text are 0
 half-past : (text : List ℕ) (n : ℕ) → length text ≤ 2 * n → half_of text n ≡ 0
@@ -173,3 +174,44 @@ pub patched-groups : (p : PagedView) (e : LogEntry) → (patched p e).groups ≡
 patched-groups p e = elim (is_present p.base p.log e.group) as (λ b. (if b then p else logged p e).groups ≡ p.groups) [ true ↦ refl | false ↦ refl ]
 
 pub ruleset patched_keeps = (patched-number, patched-groups)
+
+-- the halfwords of a line of text lie within the pages, and so does the one behind it where the range goes on
+pub line-within : (t : Groups) (line long : ℕ) → IsGroups t → text_size t.text ≡ 2 * long → 64 * line < text_size t.text
+    → (32 * line + 32 ≤ long) × (64 * line + 64 < end_in t.text (64 * line) → 32 * line + 32 < long)
+line-within t line long good whole within =
+    let pages : text_size t.text % 4096 ≡ 0 = size_pages t.text RAM_START good.text.ranges in
+    let near = end_near t.text RAM_START (64 * line) good.text.ranges within in
+    (omega (arith, pages, whole, within), λ more. omega (arith, near.1, more, whole))
+
+-- a line that is copied from pages that are the mask is the window of the mask
+pub window-of : (p : PagedView) (pages : List ℕ) (line : ℕ) → pages ≡ mask_of p → ((n : ℕ) → slice_index pages n ≡ masked p n)
+    → (let copy : Window = record { line = line; halves = take 32 (drop (32 * line) pages) ++ (if nat_lt (64 * line + 64) (end_in p.groups.text (64 * line)) then slice_index pages (32 * line + 32) else 0) ∷ [] } in copy) ≡ window_of p line
+unfolding window_of
+window-of p pages line same each = rw (each (32 * line + 32), same) refl
+
+within-window : (m : List ℕ) (x from k : ℕ) → from + 32 ≤ length m → k < 32 → slice_index (take 32 (drop from m) ++ x ∷ []) k ≡ slice_index m (from + k)
+within-window m x from k room low = grind (arith, common_steps)
+
+last-window : (m : List ℕ) (x from : ℕ) → from + 32 ≤ length m → slice_index (take 32 (drop from m) ++ x ∷ []) 32 ≡ x
+last-window m x from room = grind (arith, common_steps)
+
+-- a halfword of the mask, where text has whole pages
+mask_half : (p : PagedView) (n : ℕ) → n < length p.text / 2 → slice_index (mask_of p) n ≡ masked p n
+mask_half p n within = get_or-map-range_with_len (masked p) 0 (length p.text / 2) n n 0 within (omega arith)
+
+pub windows_are_of_the_mask : WindowsAreOfTheMask
+unfolding window_of
+windows_are_of_the_mask p n k good size inside low goes_on =
+    let whole : text_size p.groups.text % 4096 ≡ 0 = size_pages p.groups.text RAM_START good.text.ranges in
+    let long : length (mask_of p) ≡ length p.text / 2 = length-map-range_with_len (masked p) 0 (length p.text / 2) in
+    let room : 32 * n + 32 ≤ length (mask_of p) = omega (arith, whole, long, size, inside) in
+    let last : ℕ = if nat_lt (64 * n + 64) (end_in p.groups.text (64 * n)) then masked p (32 * n + 32) else 0 in
+    elim (nat_lt k 32) as (λ b. nat_lt k 32 ≡ b → slice_index (take 32 (drop (32 * n) (mask_of p)) ++ last ∷ []) k ≡ masked p (32 * n + k)) [
+      | true ↦ λ is.
+          let first : k < 32 = ltb-true k 32 is in
+          within-window (mask_of p) last (32 * n) k room first ∙ mask_half p (32 * n + k) (omega (arith, long, room, first))
+      | false ↦ λ is.
+          let at : k ≡ 32 = omega (arith, ltb-false k 32 is, low) in
+          let test : nat_lt (64 * n + 64) (end_in p.groups.text (64 * n)) ≡ true = (let more : 64 * n + 64 < end_in p.groups.text (64 * n) = goes_on at in grind (arith, nat_tests, more)) in
+          rw (at, last-window (mask_of p) last (32 * n) room, test) refl
+    ] refl
