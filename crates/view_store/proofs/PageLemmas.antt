@@ -1,6 +1,7 @@
 -- What restoring a group does to the mask, and what a patch does to the log.
-use Rattle.std.proofs.Common.{◌≡◌, ℕ, ◌+◌, ◌-◌, ◌*◌, ◌/◌, ◌%◌, ◌<◌, ◌≤◌, Bool, true, false, List, [], ◌∷◌, ◌++◌, length, arith, refl, ◌∙◌, sym}
-use Rattle.std.proofs.lemmas.List.{get_or_past}
+use Rattle.std.proofs.Common.{◌≡◌, ℕ, ◌+◌, ◌-◌, ◌*◌, ◌/◌, ◌%◌, ◌<◌, ◌≤◌, Bool, true, false, List, [], ◌∷◌, ◌++◌, length, ap, arith, refl, ◌∙◌, sym}
+use Rattle.std.proofs.lemmas.List.{get_or-drop, get_or-take, get_or_append_left, get_or_past, length-drop, length-take-le}
+use Rattle.std.proofs.Math.Seq.{get_or-append_seam}
 use Rattle.std.proofs.lemmas.List.FromFn.{fill_by_all, get_or-map-range_with_len, length-map-range_with_len}
 use borrow.Author.Tests.{ltb-true, ltb-false}
 use Rattle.std.proofs.lemmas.List.Sums.{count_by-le-length, sum_by-set}
@@ -189,11 +190,17 @@ pub window-of : (p : PagedView) (pages : List ℕ) (line : ℕ) → pages ≡ ma
 unfolding window_of
 window-of p pages line same each = rw (each (32 * line + 32), same) refl
 
-within-window : (m : List ℕ) (x from k : ℕ) → from + 32 ≤ length m → k < 32 → slice_index (take 32 (drop from m) ++ x ∷ []) k ≡ slice_index m (from + k)
-within-window m x from k room low = grind (arith, common_steps)
+part-long : (n : ℕ) (m : List ℕ) (from : ℕ) → from + n ≤ length m → length (take n (drop from m)) ≡ n
+part-long n m from room = length-take-le n (drop from m) (let long = length-drop from m in omega (arith, long, room))
 
-last-window : (m : List ℕ) (x from : ℕ) → from + 32 ≤ length m → slice_index (take 32 (drop from m) ++ x ∷ []) 32 ≡ x
-last-window m x from room = grind (arith, common_steps)
+within-part : (n : ℕ) (m : List ℕ) (x from k : ℕ) → from + n ≤ length m → k < n → slice_index (take n (drop from m) ++ x ∷ []) k ≡ slice_index m (from + k)
+within-part n m x from k room low =
+    get_or_append_left (take n (drop from m)) (x ∷ []) 0 k (let long = part-long n m from room in omega (arith, long, low))
+    ∙ get_or-take n (drop from m) k 0 low ∙ get_or-drop from m k 0
+
+behind-part : (n : ℕ) (m : List ℕ) (x from : ℕ) → from + n ≤ length m → slice_index (take n (drop from m) ++ x ∷ []) n ≡ x
+behind-part n m x from room =
+    ap (λ i. slice_index (take n (drop from m) ++ x ∷ []) i) (sym (part-long n m from room)) ∙ get_or-append_seam (take n (drop from m)) x [] 0
 
 -- a halfword of the mask, where text has whole pages
 mask_half : (p : PagedView) (n : ℕ) → n < length p.text / 2 → slice_index (mask_of p) n ≡ masked p n
@@ -209,9 +216,9 @@ windows_are_of_the_mask p n k good size inside low goes_on =
     elim (nat_lt k 32) as (λ b. nat_lt k 32 ≡ b → slice_index (take 32 (drop (32 * n) (mask_of p)) ++ last ∷ []) k ≡ masked p (32 * n + k)) [
       | true ↦ λ is.
           let first : k < 32 = ltb-true k 32 is in
-          within-window (mask_of p) last (32 * n) k room first ∙ mask_half p (32 * n + k) (omega (arith, long, room, first))
+          within-part 32 (mask_of p) last (32 * n) k room first ∙ mask_half p (32 * n + k) (omega (arith, long, room, first))
       | false ↦ λ is.
           let at : k ≡ 32 = omega (arith, ltb-false k 32 is, low) in
           let test : nat_lt (64 * n + 64) (end_in p.groups.text (64 * n)) ≡ true = (let more : 64 * n + 64 < end_in p.groups.text (64 * n) = goes_on at in grind (arith, nat_tests, more)) in
-          rw (at, last-window (mask_of p) last (32 * n) room, test) refl
+          ap (λ i. slice_index (take 32 (drop (32 * n) (mask_of p)) ++ last ∷ []) i) at ∙ behind-part 32 (mask_of p) last (32 * n) room ∙ (rw test (ap (λ i. masked p (32 * n + i)) (sym at)))
     ] refl
