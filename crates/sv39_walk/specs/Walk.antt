@@ -1,7 +1,7 @@
 -- Translation of an address by satp: a sequence of table entries, at most three for Sv39 and four for Sv48, each standing in the table
 -- that the one before names.
 -- Privileged manual, "Supervisor Address Translation and Protection (satp) Register" and "Virtual Address Translation Process".
-use Rattle.std.specs.Prelude.{◌≡◌, ◌≢◌, ℕ, ◌+◌, ◌-◌, ◌*◌, ◌/◌, ◌%◌, ◌^◌, ◌<◌, ◌≤◌, ◌==◌, Bool, true, false, not, ◌&&◌, ◌||◌, nat_eq, if◌then◌else◌, List, length, slice_index, Option, Some, None, Result, Ok, Err}
+use Rattle.std.specs.Prelude.{◌≡◌, ◌≢◌, ℕ, ◌+◌, ◌-◌, ◌*◌, ◌%◌, ◌^◌, ◌<◌, ◌≤◌, ◌==◌, Bool, true, false, not, ◌&&◌, if◌then◌else◌, List, length, slice_index, Option, Some, None, Result, Ok, Err}
 use Rattle.std.proofs.Common.{zero, suc}
 use Rattle.fc_numbers.specs.declared.machine.Mode.{Mode}
 use Rattle.fc_numbers.specs.declared.machine.Access.{Access}
@@ -100,3 +100,7 @@ place_of (At place) = Some place
 place_of PageFault = None
 place_of AccessFault = None
 place_of TableInText = None
+
+-- the place that an address leads to for a vCPU with these registers, in this mode
+unfoldable pub place_for : Ram → Csrs → Mode → Access → ℕ → Option ℕ
+place_for ram csr mode access va = place_of (walked_for ram csr mode access va)

@@ -15,7 +15,7 @@ ghost use Rattle.std.specs.Prelude.{◌≡◌, ◌≤◌, ◌<◌, ◌+◌, ◌*
 ghost use Rattle.page_table.specs.declared.TheConstants.{LEVELS_MOST};
 ghost use Rattle.page_table.specs.Level.{index_at, page_size};
 ghost use Rattle.page_table.specs.Mode.{is_canonical};
-ghost use Rattle.sv39_walk.specs.Walk.{asked, entry_read, walk_from, walked, walked_for, place_of, IsTranslation, KeepsLow};
+ghost use Rattle.sv39_walk.specs.Walk.{asked, entry_read, walk_from, walked, walked_for, place_for, IsTranslation, KeepsLow};
 
 use entry::is_fault;
 use fc_numbers::machine::{Access, Mode, Width};
@@ -172,14 +172,9 @@ pub fn walk_for(ram: &GuestRam, csr: &CsrFile, mode: Mode, access: Access, va: V
 }
 
 /// The place that [`walk_for`] finds, if there is one.
-pub fn place_for(
-    ram: &GuestRam,
-    csr: &CsrFile,
-    mode: Mode,
-    access: Access,
-    va: Va,
-) -> Option<Gpa>
-    ensures value { result ≡ place_of (walked_for ram.now csr.now mode access va) }
+#[tactic(auto, unfolding(crate::specs::Walk::place_for))]
+pub fn place_for(ram: &GuestRam, csr: &CsrFile, mode: Mode, access: Access, va: Va) -> Option<Gpa>
+    ensures value { result ≡ place_for ram.now csr.now mode access va }
     ensures low { IfSome result (λ place. place % 4096 ≡ va % 4096) }
 {
     match walk_for(ram, csr, mode, access, va) {

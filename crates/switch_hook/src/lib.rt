@@ -15,9 +15,9 @@ ghost use Rattle.std.specs.Prelude.{◌≡◌};
 ghost use Rattle.switch_hook.specs.Hook.{address_after, app_name_of, byte_at, name_at_address};
 
 use arrayvec::ArrayVec;
-use fc_numbers::machine::{Access, Mode, Width};
+use fc_numbers::machine::{Access, Mode};
 use fc_numbers::name::{NAME_MOST, Name};
-use fc_numbers::places::Va;
+use fc_numbers::places::{RAM_START, Va};
 use guest_ram::GuestRam;
 use rv_csr::CsrFile;
 use sv39_walk::place_for;
@@ -26,13 +26,16 @@ use sv39_walk::place_for;
 mod tests;
 
 /// The byte that a load in supervisor mode reads at an address.
-#[tactic(auto, unfolding(crate::specs::Hook::byte_at))]
+#[tactic(auto, unfolding(crate::specs::Hook::byte_at, guest_ram::specs::Value::value_at))]
 fn byte_at(ram: &GuestRam, csr: &CsrFile, va: Va) -> Option<u8>
     ensures { result ≡ byte_at ram.now csr.now va }
 {
     let place = place_for(ram, csr, Mode::Vs, Access::Load, va)?;
-    let value = ram.load(place, Width::Byte).ok()?;
-    Some(value as u8)
+    if ram.is_inside(place) {
+        Some(ram.bytes()[(place.0 - RAM_START) as usize])
+    } else {
+        None
+    }
 }
 
 /// The address so many bytes after another; after the last address comes the first.
