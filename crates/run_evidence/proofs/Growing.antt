@@ -8,16 +8,14 @@ use mathlib.Core.Logic.{dite}
 use native.Mathlib.Decide.{dec_lt}
 use Rattle.chain_log.specs.declared.entry.LogEntry.{LogEntry}
 use Rattle.function_table.specs.Groups.{group_at}
-use Rattle.guest_board.specs.declared.rules.Rules.{Rules}
-use Rattle.guest_board.specs.Board.{State, may, next_of, next_start, step_of}
-use Rattle.guest_board.proofs.Idle.{idle_vcpus_stay}
-use Rattle.guest_board.proofs.Steps.{step-is}
+use Rattle.guest_board.specs.Board.{State, may, next_of}
 use Rattle.run_evidence.specs.Config.{Config, groups_in, rules_in, is_base, full, full_at, IsLawful, view_in, view_at, fetched_at}
-use Rattle.run_evidence.specs.Evidence.{is_logged, is_open, log_in}
+use Rattle.run_evidence.specs.Evidence.{AllJustified, is_logged, is_open, log_in}
 use Rattle.run_evidence.specs.Growing.{Begins, RunsAppend, BoardsMove, LawfulGrows, FrontsAreLawful, StoppedStays, AllowedIsFromStart, AllowedFromStays, AllowedFromGrows, AllowedJoins}
 use Rattle.run_evidence.specs.Stays.{JustifiedStays}
 use Rattle.run_evidence.proofs.Runs.{run_from-append, run_from-more, full_at-now, full_at-more, member-now, lawful-more}
 use Rattle.run_evidence.proofs.Stable.{or-weaken}
+use Rattle.run_evidence.proofs.Steps.{stopped-step}
 
 -- what came before does not depend on what comes
 pub full_at-front : (c : Config) (schedule later : List ℕ) (t : ℕ) → t ≤ length schedule → full_at c (schedule ++ later) t ≡ full_at c schedule t
@@ -96,10 +94,6 @@ allowed_from_grows c schedule i from logs all new t p low within next =
     let n : next_of (full c schedule) i ≡ Some p = rw (a, b) at next in
     rw (a, b) (subst (λ x. is_open c logs (view_in c (full c schedule) i) x (group_at (groups_in c) p) ≡ true) (sym last) (new p n)))
 
--- a vCPU that may not step may not after another vCPU's step
-stopped_step : (rules : Rules) (s : State) (i j : ℕ) → may rules s i ≡ false → may rules s j ≡ true → may rules (step_of rules s j) i ≡ false
-stopped_step rules s i j stuck goes = rw (step-is rules s j) (idle_vcpus_stay rules s j i (next_start s j) goes stuck)
-
 pub stopped_stays : StoppedStays
 stopped_stays c schedule [] i stuck lawful = subst (λ z. may (rules_in c) (full c z) i ≡ false) (sym (append-nil schedule)) stuck
 stopped_stays c schedule (j ∷ later) i stuck lawful =
@@ -108,6 +102,10 @@ stopped_stays c schedule (j ∷ later) i stuck lawful =
     let state : full_at c (schedule ++ j ∷ later) (length schedule) ≡ full c schedule = full_at-front c schedule (j ∷ later) (length schedule) (omega arith) ∙ full_at-now c schedule in
     let who : slice_index (schedule ++ j ∷ later) (length schedule) ≡ j = get_or-append_seam schedule j later 0 in
     let goes : may (rules_in c) (full c schedule) j ≡ true = subst (λ (k : ℕ). may (rules_in c) (full c schedule) k ≡ true) who (subst (λ (s : State). may (rules_in c) s (slice_index (schedule ++ j ∷ later) (length schedule)) ≡ true) state here) in
-    let next : may (rules_in c) (full c (schedule ++ j ∷ [])) i ≡ false = subst (λ (s : State). may (rules_in c) s i ≡ false) (sym (run_from-more (rules_in c) _ schedule j)) (stopped_step (rules_in c) (full c schedule) i j stuck goes) in
+    let next : may (rules_in c) (full c (schedule ++ j ∷ [])) i ≡ false = subst (λ (s : State). may (rules_in c) s i ≡ false) (sym (run_from-more (rules_in c) _ schedule j)) (stopped-step (rules_in c) (full c schedule) i j stuck goes) in
     let whole : (schedule ++ j ∷ []) ++ later ≡ schedule ++ j ∷ later = append_assoc schedule (j ∷ []) later in
     subst (λ z. may (rules_in c) (full c z) i ≡ false) whole (stopped_stays c (schedule ++ j ∷ []) later i next (subst (λ z. IsLawful c z) (sym whole) lawful))
+
+pub all_justified_later : (c : Config) (schedule later : List ℕ) (log : List LogEntry) → AllJustified c schedule log → AllJustified c (schedule ++ later) log
+all_justified_later c schedule later [] all = tt
+all_justified_later c schedule later (e ∷ es) all = (justified_later c schedule later e all.0, all_justified_later c schedule later es all.1)

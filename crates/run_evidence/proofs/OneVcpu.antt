@@ -1,37 +1,27 @@
 -- A run of one vCPU: each step is of vCPU 0, without a hook under the view of its name, and an ended run has an entry
 -- for steps alone.
-use Rattle.std.proofs.Common.{◌≡◌, ◌≢◌, ℕ, ◌<◌, ◌≤◌, true, false, Bool, List, [], ◌∷◌, length, refl, sym, ap, subst, ◌∙◌, arith, Option, Some, None, take}
-use Rattle.std.specs.Prelude.{◌&&◌, is_none, IsSome, slice_index, slice_index_or}
-use Rattle.std.proofs.lemmas.Bool.Decides.{nat_tests}
-use Rattle.std.proofs.lemmas.List.{get_or_past}
+use Rattle.std.proofs.Common.{◌≡◌, ℕ, ◌<◌, ◌≤◌, true, List, [], ◌∷◌, length, refl, sym, ap, subst, ◌∙◌, arith, Option, Some, None, take}
+use Rattle.std.specs.Prelude.{is_none, IsSome, slice_index}
 use Rattle.std.proofs.lemmas.List.FromFn.{get_or-map-range_with_len, length-map-range_with_len}
-use mathlib.Core.Logic.{dite}
-use native.Mathlib.Decide.{dec_lt, ℕ_discrete}
 use Rattle.chain_log.specs.declared.entry.LogEntry.{LogEntry}
 use Rattle.fc_numbers.specs.declared.machine.End.{End}
 use Rattle.guest_input.specs.declared.image.Image.{Image}
 use Rattle.guest_input.specs.declared.setup.Setup.{Setup}
 use Rattle.view_file.specs.Named.{view_named}
-use Rattle.rv_step.specs.Site.{Site}
 use Rattle.guest_board.specs.declared.rules.Rules.{Rules}
 use Rattle.guest_board.specs.declared.slot.Slot.{Slot}
-use Rattle.guest_board.specs.declared.step.StepStart.{StepStart}
-use Rattle.guest_board.specs.Made.{Made}
-use Rattle.guest_board.specs.Step.{made_by, place_of}
-use Rattle.guest_board.specs.Board.{State, after_made, is_same_place, may, name_after, name_of, next_start, no_slot, run_from, site_of, slot_after, slot_of, slots_after, step_of, stepped_by}
+use Rattle.guest_board.specs.Board.{State, may, name_of, next_start, no_slot, run_from, step_of}
 use Rattle.guest_board.specs.First.{first_slot, first_slots, first_state, hook_place, text_of}
-use Rattle.guest_board.proofs.Others.{leaves_others}
-use Rattle.guest_board.proofs.Slots.{slots-length, slots-own}
-use Rattle.guest_board.proofs.Steps.{step-is, stepped-vcpus, may-vcpu}
 use Rattle.run_evidence.specs.Config.{Config, rules_in, full, full_at, IsLawful, view_at}
 use Rattle.run_evidence.specs.Evidence.{IsJustified, AllJustified}
 use Rattle.run_evidence.proofs.Runs.{full_at-now}
 use Rattle.run_evidence.proofs.Logged.{IsOfStep, AllOfSteps}
+use Rattle.run_evidence.proofs.Steps.{step-is, stepped-slots, step-name, may-slot, may-none}
 
 -- a run keeps the number of vCPUs
 run-vcpus : (rules : Rules) (s : State) (schedule : List ℕ) → length (run_from rules s schedule).slots ≡ length s.slots
 run-vcpus rules s [] = refl
-run-vcpus rules s (i ∷ is) = run-vcpus rules (step_of rules s i) is ∙ ap (λ (x : State). length x.slots) (step-is rules s i) ∙ stepped-vcpus rules s i (next_start s i)
+run-vcpus rules s (i ∷ is) = run-vcpus rules (step_of rules s i) is ∙ ap (λ (x : State). length x.slots) (step-is rules s i) ∙ stepped-slots rules s i (next_start s i)
 
 first-vcpus : (image : Image) (setup : Setup) → length (first_state image setup).slots ≡ setup.vcpus
 unfolding first_state first_slots
@@ -41,35 +31,6 @@ pub full-vcpus : (c : Config) (schedule : List ℕ) → length (full c schedule)
 full-vcpus c schedule = run-vcpus (rules_in c) (first_state c.image c.setup) schedule ∙ first-vcpus c.image c.setup
 
 -- where no step is a hook step, a run keeps every name
-no-hook : (place : Option ℕ) (hook : Option ℕ) (b : Bool) → hook ≡ None → (is_same_place place hook && b) ≡ false
-no-hook None hook b unhooked = refl
-no-hook (Some p) None b unhooked = refl
-no-hook (Some p) (Some q) b unhooked = absurd (cc)
-
-kept-name : (rules : Rules) (s : Site) (slot : Slot) (start : StepStart) (m : Made) → rules.hook ≡ None → (slot_after rules s slot start m).name ≡ slot.name
-unfolding slot_after
-kept-name rules s slot start m unhooked =
-    ap (λ b. name_after b rules s slot.name) (no-hook (place_of start) rules.hook (is_none m.left.end) unhooked)
-
-past-slot : (slots : List Slot) (k : ℕ) → length slots ≤ k → slice_index_or slots k no_slot ≡ no_slot
-past-slot slots k over = get_or_past slots k no_slot over
-
-own-name : (rules : Rules) (s : State) (i : ℕ) (start : StepStart) → rules.hook ≡ None → name_of (stepped_by rules s i start) i ≡ name_of s i
-unfolding after_made
-own-name rules s i start unhooked =
-    dite (dec_lt i (length s.slots))
-    (λ inside. ap (λ (x : Slot). x.name) (slots-own rules s i start (made_by start s.clock (site_of s i)) inside) ∙ kept-name rules (site_of s i) (slot_of s i) start (made_by start s.clock (site_of s i)) unhooked)
-    (λ outside.
-    let long : length (slots_after rules s i start (made_by start s.clock (site_of s i))) ≡ length s.slots = slots-length rules s i start (made_by start s.clock (site_of s i)) in
-    ap (λ (x : Slot). x.name) (past-slot (slots_after rules s i start (made_by start s.clock (site_of s i))) i (omega (arith, long, outside)))
-    ∙ ap (λ (x : Slot). x.name) (sym (past-slot s.slots i (omega (arith, outside)))))
-
-step-name : (rules : Rules) (s : State) (i k : ℕ) → rules.hook ≡ None → name_of (step_of rules s i) k ≡ name_of s k
-step-name rules s i k unhooked =
-    rw (step-is rules s i)
-    (dite (ℕ_discrete k i) (λ same. subst (λ j. name_of (stepped_by rules s i (next_start s i)) j ≡ name_of s j) (sym same) (own-name rules s i (next_start s i) unhooked))
-    (λ other. (leaves_others rules s i k (next_start s i) other).name))
-
 run-name : (rules : Rules) (s : State) (schedule : List ℕ) (k : ℕ) → rules.hook ≡ None → name_of (run_from rules s schedule) k ≡ name_of s k
 run-name rules s [] k unhooked = refl
 run-name rules s (i ∷ is) k unhooked = run-name rules (step_of rules s i) is k unhooked ∙ step-name rules s i k unhooked
@@ -83,16 +44,13 @@ full-name c schedule k unhooked within =
     run-name (rules_in c) (first_state c.image c.setup) schedule k (ap (λ h. hook_place (text_of c.image) h) unhooked) ∙ first-name c.image c.setup k within
 
 -- nobody may step once the run has ended
-may-none : (rules : Rules) (s : State) (i : ℕ) → may rules s i ≡ true → is_none s.end ≡ true
-may-none rules s i m = grind (arith, nat_tests, m)
-
 none-some : (e : Option End) → is_none e ≡ true → IsSome e → ⊥
 none-some None n s = absurd (cc)
 none-some (Some e) n s = absurd (cc)
 
 module _ (c : Config) (one : c.setup.vcpus ≡ 1) where
   alone : (schedule : List ℕ) (i : ℕ) → may (rules_in c) (full c schedule) i ≡ true → i ≡ 0
-  alone schedule i m = omega (arith, may-vcpu (rules_in c) (full c schedule) i m, full-vcpus c schedule, one)
+  alone schedule i m = omega (arith, may-slot (rules_in c) (full c schedule) i m, full-vcpus c schedule, one)
 
   module _ (schedule : List ℕ) (lawful : IsLawful c schedule) where
     member-zero : (t : ℕ) → t < length schedule → slice_index schedule t ≡ 0

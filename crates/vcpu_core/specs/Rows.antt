@@ -1,5 +1,5 @@
 -- What the rows of the view machine keep, for every run and all logs that their board, view and lane are of.
-use Rattle.std.specs.Prelude.{◌≡◌, ℕ, false, List, [], ◌∷◌, ◌++◌, length, replicate}
+use Rattle.std.specs.Prelude.{◌≡◌, ◌≢◌, ℕ, false, List, [], ◌∷◌, ◌++◌, length, replicate}
 use Rattle.function_table.specs.Groups.{Groups}
 use Rattle.chain_log.specs.declared.entry.LogEntry.{LogEntry}
 use Rattle.view_file.specs.declared.views.Views.{Views}
@@ -9,22 +9,24 @@ use Rattle.view_store.specs.Paged.{PagedView, is_logged, logged}
 use Rattle.guest_board.specs.Board.{Seat}
 use Rattle.run_evidence.specs.Config.{Config, IsConfig, IsLawful, groups_in}
 use Rattle.run_evidence.specs.Evidence.{AreJustified, IsJustified, log_in}
-use Rattle.run_evidence.specs.Growing.{IsAllowedFrom, board_of, paged_at}
+use Rattle.run_evidence.specs.Growing.{Begins, IsAllowedFrom, board_of, paged_at}
 use Rattle.vcpu_core.specs.declared.lane.Lane.{Lane}
+use Rattle.vcpu_core.specs.Placed.{IsPlaced}
 use Rattle.vcpu_core.specs.Truthful.{IsTruthful}
 
--- n more steps of the lane's vCPU: the board is that of the longer schedule, in which each of them exists and fetched
--- what the logs allow, and the lane is truthful for it
-pub record AreAllowedSteps (c : Config) (schedule : List ℕ) (logs : List (List LogEntry)) (n : ℕ) (b : Seat) (l : Lane) : Type 0 where
-  pub board : b ≡ board_of c (schedule ++ replicate n l.vcpu)
-  pub lawful : IsLawful c (schedule ++ replicate n l.vcpu)
-  pub allowed : IsAllowedFrom c logs (schedule ++ replicate n l.vcpu) (length schedule)
-  pub truthful : IsTruthful c (schedule ++ replicate n l.vcpu) logs l
+-- n more steps of vCPU i: the board is that of the longer schedule, in which each of them exists and fetches what the
+-- logs allow, and the vCPU's lane is truthful for it
+pub record AreAllowedSteps (c : Config) (schedule : List ℕ) (logs : List (List LogEntry)) (i n : ℕ) (b : Seat) (l : Lane) : Type 0 where
+  pub board : b ≡ board_of c (schedule ++ replicate n i)
+  pub lawful : IsLawful c (schedule ++ replicate n i)
+  pub allowed : IsAllowedFrom c logs (schedule ++ replicate n i) (length schedule)
+  pub vcpu : l.vcpu ≡ i
+  pub truthful : IsTruthful c (schedule ++ replicate n i) logs l
 
 abbrev pub TurnsKeep : Views → Seat → Lane → Seat → Lane → ℕ → Type 0
 TurnsKeep views b l b' l' n = (c : Config) (schedule : List ℕ) (logs : List (List LogEntry)) → IsConfig c → c.views ≡ views
     → b ≡ board_of c schedule → IsLawful c schedule → AreJustified c logs schedule → IsTruthful c schedule logs l
-    → AreAllowedSteps c schedule logs n b' l'
+    → AreAllowedSteps c schedule logs l.vcpu n b' l'
 
 -- the view that a window is taken from has the log for which the lane is truthful
 abbrev pub FillKeeps : PagedView → Lane → Lane → Type 0
@@ -55,3 +57,17 @@ abbrev pub MendKeeps : PagedView → Lane → PagedView → Lane → Patched →
 MendKeeps p l p' l' did = (c : Config) (schedule : List ℕ) (logs : List (List LogEntry)) → IsConfig c
     → p ≡ paged_at c l.windows.view (log_in logs l.windows.view) → IsTruthful c schedule logs l
     → IsMended c schedule p p' l' did
+
+-- none of these steps is one of vCPU i
+abbrev pub AreOfOthers : ℕ → List ℕ → Type 0
+AreOfOthers i [] = Unit {0}
+AreOfOthers i (j ∷ js) = (j ≢ i) × AreOfOthers i js
+
+-- a truthful lane stays so when other vCPUs step and when logs grow
+abbrev pub TruthfulLanesStay : Type 0
+TruthfulLanesStay = (c : Config) (schedule later : List ℕ) (logs more : List (List LogEntry)) (l : Lane) → AreOfOthers l.vcpu later
+    → ((v : ℕ) → Begins (log_in logs v) (log_in more v)) → IsTruthful c schedule logs l → IsTruthful c (schedule ++ later) more l
+
+-- what the rows ask of a lane is true of a truthful one
+abbrev pub TruthfulLanesArePlaced : Type 0
+TruthfulLanesArePlaced = (c : Config) (schedule : List ℕ) (logs : List (List LogEntry)) (l : Lane) → IsTruthful c schedule logs l → IsPlaced (groups_in c) l l.phase
