@@ -1,7 +1,7 @@
 pub mod Halves
-pub mod LeftOver
 pub mod Places
 pub mod Slots
+pub mod LeftOver
 pub mod Steps
 pub mod Stays
 pub mod Parts

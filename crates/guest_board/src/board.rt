@@ -156,7 +156,11 @@ fn carry_slot<S: SecondStage>(
     // Memory is laid out lawfully, so a step keeps its text; the call says so.
     let _laid = ram.text();
     let at_hook = is_at_hook(rules, &start);
-    let met = if at_hook { read_name(rules, &slot.vcpu, ram) } else { None };
+    let met = if at_hook {
+        read_name(rules, &slot.vcpu, ram)
+    } else {
+        None
+    };
     let left = carry_out(start, &mut slot.vcpu, ram, feed, stage, put, clock);
     slot.made += 1;
     if at_hook && left.end.is_none() {

@@ -9,12 +9,12 @@ ghost use Rattle.fc_numbers.specs.declared.places.TheConstants.{RAM_MOST, RAM_ST
 ghost use Rattle.guest_board.specs.First.{first_slot, first_slots, first_vcpu, first_ram, with_parts, text_parts};
 ghost use Rattle.guest_board.specs.OpenFacts.{LieBelow};
 
+use crate::slot::Slot;
 use fc_numbers::machine::Mode;
 use fc_numbers::memory::NoMemory;
 use fc_numbers::name::Name;
 use fc_numbers::places::{Gpa, Span, Va, VcpuNo};
 use fc_numbers::regs::Regs;
-use crate::slot::Slot;
 use guest_input::image::{Image, PartBytes};
 use guest_input::setup::Setup;
 use guest_ram::GuestRam;

@@ -104,7 +104,13 @@ fn read_window(text: &[Span], seen: &Windows, got: Fetched, place: Gpa) -> Verdi
         None => Verdict::Needs(line),
         Some(window) => {
             let n = (offset / 2 % 32) as usize;
-            read_halves(&seen.cleared, got, place, window.halves[n], window.halves[n + 1])
+            read_halves(
+                &seen.cleared,
+                got,
+                place,
+                window.halves[n],
+                window.halves[n + 1],
+            )
         }
     }
 }
