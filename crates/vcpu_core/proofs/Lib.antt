@@ -5,4 +5,10 @@ pub mod Run
 pub mod Turning
 pub mod Turned
 pub mod Mended
+pub mod Stays
+pub mod Ready
+pub mod Kept
+pub mod Start
 pub mod Staged
+pub mod OneVcpu
+pub mod Ended

@@ -1,25 +1,38 @@
-//! What is true after any list of events. Nothing here runs: each function has a law as its contract.
+//! What is true after any list of events, and of truthful lanes. Nothing here runs: each function has a law as its contract.
 
-ghost use Rattle.std.specs.Prelude.{◌≡◌, ℕ, None, List, replicate};
+ghost use Rattle.std.specs.Prelude.{◌≡◌, ℕ, None, List};
 ghost use Rattle.run_evidence.specs.Config.{Config, IsConfig};
 ghost use Rattle.vcpu_core.specs.First.{first_world};
 ghost use Rattle.vcpu_core.specs.declared.lane.Went.TheVariants.{Over};
 ghost use Rattle.vcpu_core.specs.World.{go_all, went_of, erased};
-ghost use Rattle.vcpu_core.specs.Sound.{IsSound, AllErased};
+ghost use Rattle.vcpu_core.specs.Rows.{TruthfulLanesArePlaced, TruthfulLanesStay};
+ghost use Rattle.vcpu_core.specs.Sound.{HasTruthfulLanes, IsSound};
 ghost use Rattle.vcpu_core.specs.Missed.{HasEnded, EachLogsItsMisses, FirstLogsAllMisses};
 
 /// After any list of events the board is the full kernel's run of the steps that were made, in a lawful schedule; the
 /// views are numbered in order, each over the image's text with its base; every fetch of kernel text was allowed; every
 /// entry names missing code about to be fetched; and no view has a group twice.
-#[tactic(auto, using(crate::proofs::EveryOrder::sound_of_events))]
+#[tactic(auto, using(crate::proofs::Start::sound_of_events))]
 pub fn every_order_is_sound()
     ensures { (c : Config) → IsConfig c → (is : List ℕ) → IsSound c (go_all (first_world c) is) (erased (first_world c) is) }
 {}
 
-/// Among any ten events of one vCPU that may step at each of them, after any list of events, one is a step.
-#[tactic(auto, using(crate::proofs::EveryOrder::ten_events))]
-pub fn one_in_ten_events_steps()
-    ensures { (c : Config) → IsConfig c → (is : List ℕ) (i : ℕ) → AllErased (go_all (first_world c) is) i 10 → ⊥ }
+/// After any list of events each lane is its vCPU's, and truthful for the steps that were made and the logs.
+#[tactic(auto, using(crate::proofs::Start::truthful_of_events))]
+pub fn lanes_are_truthful_after_every_order()
+    ensures { (c : Config) → IsConfig c → (is : List ℕ) → HasTruthfulLanes c (go_all (first_world c) is) (erased (first_world c) is) }
+{}
+
+/// A truthful lane stays truthful when other vCPUs step and when logs grow.
+#[tactic(auto, using(crate::proofs::Stays::truthful_lanes_stay))]
+pub fn truthful_lanes_stay()
+    ensures { TruthfulLanesStay }
+{}
+
+/// What the rows ask of a lane is true of a truthful one.
+#[tactic(auto, using(crate::proofs::Stays::truthful_lanes_are_placed))]
+pub fn truthful_lanes_are_placed()
+    ensures { TruthfulLanesArePlaced }
 {}
 
 /// With one vCPU, once the run has ended, the log of each view is exactly the misses under that view, in order.

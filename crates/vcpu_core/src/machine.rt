@@ -177,8 +177,8 @@ impl<'a> Core<'a> {
 
     /// The board and the views, as they are.
     pub fn into_parts(self) -> (Board, Vec<View>)
-        ensures board { result.0 ≡ self.board }
-        ensures views { result.1.items ≡ self.paged_views }
+        ensures board { result.0 ≡ self.entry.board }
+        ensures views { result.1.items ≡ self.entry.paged_views }
     {
         let Core { board, views, .. } = self;
         (board, views)
