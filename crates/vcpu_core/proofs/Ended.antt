@@ -29,7 +29,7 @@ use Rattle.vcpu_core.proofs.Start.{kept_of_events}
 use Rattle.vcpu_core.proofs.Verdicts.{start-busy, verdict-may}
 
 -- a vCPU that may not step, of one that there is and that has steps left, is stuck by the end
-left-by : (n made steps : ℕ) (open : Bool) → (nat_lt 0 n && open && nat_lt made steps) ≡ false → 0 < n → made < steps → open ≡ false
+left-by : (n made steps : ℕ) (going : Bool) → (nat_lt 0 n && going && nat_lt made steps) ≡ false → 0 < n → made < steps → going ≡ false
 left-by n made steps true e some left = let z : true ≡ false = grind (arith, nat_tests, e, some, left) in z
 left-by n made steps false e some left = refl
 
@@ -39,7 +39,7 @@ none-none (Some e) n = absurd (cc)
 
 some-end : (e : Option End) → is_none e ≡ false → IsSome e
 some-end None n = absurd (cc)
-some-end (Some e) n = tt
+some-end (Some e) n = refl
 
 idle-zero : (rules : Rules) (s : State) → rules.steps ≤ made_of s 0 → may rules s 0 ≡ false
 idle-zero rules s spent = grind (arith, nat_tests, spent)

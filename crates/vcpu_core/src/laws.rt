@@ -24,7 +24,6 @@ pub fn lanes_are_truthful_after_every_order()
 {}
 
 /// A truthful lane stays truthful when other vCPUs step and when logs grow.
-#[tactic(auto, using(crate::proofs::Stays::truthful_lanes_stay))]
 pub fn truthful_lanes_stay()
     ensures { TruthfulLanesStay }
 {}

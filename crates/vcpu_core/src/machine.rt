@@ -95,7 +95,7 @@ fn event(
         result ≡ went_in old lane.old.vcpu lane.old lane.old.phase) }
     ensures stages { AreStagesFor board.new.state.ram (length profile.now.apps + 1) stages.now }
 {
-    match &lane.phase {
+    match lane.phase {
         Phase::Running => went_by(turn(board, profile, stages, lane, 1).then),
         Phase::Wants(_) => {
             let view = lane.windows.view.0 as usize;

@@ -93,8 +93,9 @@ pub fn turn(
     ensures kept { TurnsKeep views.now board.old lane.old board.new lane.new result.steps }
 {
     for steps in 0..limit {
-        if let Some(then) = take_step(board, views, stages, lane) {
-            return Turned { steps, then };
+        match take_step(board, views, stages, lane) {
+            None => {}
+            Some(then) => return Turned { steps, then },
         }
     }
     Turned {

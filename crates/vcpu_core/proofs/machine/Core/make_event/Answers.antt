@@ -24,12 +24,12 @@ ready_lane w i l m r e =
 ready_in : (c : goal.After-index_mut) → IsLaneReady (world_of c.self.inside) c.args.i c.index_mut.result.now
 ready_in c =
     let at : c.index_mut.result.now ≡ slice_index_or c.self.inside.lanes.items c.args.i c.index_mut.result.now = grind (arith, common_steps) in
-    ready_lane (world_of c.self.inside) c.args.i c.index_mut.result.now (sym c.if-not-may.ensures.answer) c.self.invariant.ready at
+    ready_lane (world_of c.self.inside) c.args.i c.index_mut.result.now (sym c.if-not-may.ensures) c.self.invariant.ready at
 
 pub event-requires-clause-number : goal.event-requires-clause-number
 event-requires-clause-number c =
     let ready : IsLaneReady (world_of c.self.inside) c.args.i c.index_mut.result.now = ready_in c in
-    let below : c.args.i < length c.self.inside.board.state.slots = may-slot c.self.inside.board.rules c.self.inside.board.state c.args.i (sym c.if-not-may.ensures.answer) in
+    let below : c.args.i < length c.self.inside.board.state.slots = may-slot c.self.inside.board.rules c.self.inside.board.state c.args.i (sym c.if-not-may.ensures) in
     subst (λ x. x < length c.self.inside.board.state.slots) (sym ready.number) below
 
 pub event-requires-clause-view : goal.event-requires-clause-view
@@ -61,7 +61,7 @@ invariant_of-self c =
     let w : World = world_of c.self.inside in
     let l : Lane = c.index_mut.result.now in
     let at : l ≡ slice_index_or c.self.inside.lanes.items c.args.i l = grind (arith, common_steps) in
-    let m : may w.board.rules w.board.state c.args.i ≡ true = sym c.if-not-may.ensures.answer in
+    let m : may w.board.rules w.board.state c.args.i ≡ true = sym c.if-not-may.ensures in
     let ready : IsLaneReady w c.args.i l = ready_lane w c.args.i l m c.self.invariant.ready at in
     let laid : IsLaid w.board.state.ram = subst IsLaid c.ram.ensures c.text-laid.ensures.laid in
     let going : IsReady (gone w c.args.i l l.phase) = gone-ready w c.args.i l l.phase m c.self.invariant.ready laid ready refl in
