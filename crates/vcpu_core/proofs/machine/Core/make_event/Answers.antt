@@ -9,6 +9,8 @@ use Rattle.run_evidence.proofs.Steps.{may-slot}
 use Rattle.view_store.specs.Paged.{PagedView}
 use Rattle.vcpu_core.specs.declared.lane.Lane.{Lane}
 use Rattle.vcpu_core.specs.World.{World, IsReady, IsLaneReady, IsPagedReady, lane_of, paged_in, gone}
+use Rattle.gstage.specs.Table.{Table}
+use Rattle.vcpu_core.specs.Stages.{AreStagesFor}
 use Rattle.vcpu_core.specs.Whole.{world_of}
 use Rattle.vcpu_core.proofs.Ready.{gone-ready}
 use Rattle.vcpu_core.proofs.machine.Core.make_event.Goals as goal
@@ -80,5 +82,5 @@ invariant_of-self c =
     let fifth : IsReady (after (with_items c.self.inside.views c.event.new.views).items c.args.i) = subst (λ x. IsReady (after x c.args.i)) (sym same) fourth in
     record {
       ready = subst (λ n. IsReady (after (with_items c.self.inside.views c.event.new.views).items n)) (sym c.i.view_is) fifth;
-      stages = c.event.ensures.stages;
+      stages = subst (λ (ts : List Table). AreStagesFor c.event.new.board.state.ram (length c.self.inside.profile.now.apps + 1) ts) c.deref.ensures.value c.event.ensures.stages;
     }
