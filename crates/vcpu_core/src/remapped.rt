@@ -55,7 +55,7 @@ const HEAD: [u8; 2] = [0xa1, 0x48];
 
 /// The app `sh` was seen to use `main` alone.
 const VIEWS: &str =
-    "{\"version\":1,\"text\":\"0000000000000000000000000000000000000000000000000000000000000000\",\"shared\":[],\"apps\":[{\"name\":\"sh\",\"functions\":[2]}]}";
+    "{\"version\":2,\"text\":\"0000000000000000000000000000000000000000000000000000000000000000\",\"shared\":[],\"apps\":[{\"name\":\"sh\",\"functions\":[[1,12]]}]}";
 
 /// Two ranges of a page each, a page apart.
 fn two_pages() -> Spans
@@ -174,7 +174,7 @@ fn nine_events_stand_before_a_step(rt: HostRuntime) -> Result<(), Fail> {
     assert!(rt; 1 < core.views());
     let log = core.log(ViewNo(1));
     assert!(rt; log.len() == 2);
-    for (n, pc, at) in [(0u16, BASE, 36u64), (1, BASE + 8192, 37)] {
+    for (n, pc, at) in [(0u16, BASE, 36u32), (1, BASE + 8192, 37)] {
         let Some(entry) = log.get(n as usize) else {
             assert!(rt; false, "entry");
             return Ok(());
