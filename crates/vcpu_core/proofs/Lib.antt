@@ -12,3 +12,10 @@ pub mod Start
 pub mod Staged
 pub mod OneVcpu
 pub mod Ended
+pub mod Events
+pub mod Waiting
+pub mod LeftOver
+pub mod Bound
+pub mod Undisturbed
+pub mod Alone
+pub mod SoFar

@@ -14,7 +14,7 @@ ghost use Rattle.vcpu_core.specs.First.{first_world, first_paged_views, first_la
 ghost use Rattle.vcpu_core.specs.Placed.{IsPlaced};
 ghost use Rattle.vcpu_core.specs.Stages.{AreStagesFor};
 ghost use Rattle.vcpu_core.specs.Turns.{went_then};
-ghost use Rattle.vcpu_core.specs.Waits.{left_of};
+ghost use Rattle.vcpu_core.specs.Waits.{all_left, left_of};
 ghost use Rattle.vcpu_core.specs.World.{World, go_of, went_of, go_all, gone, went_in, IsReady, IsLaneReady, paged_in, blank_paged, lane_of, view_of};
 
 use crate::lane::{Lane, Phase, Then, Went};
@@ -186,12 +186,13 @@ impl<'a> Core<'a> {
 
     /// One event of vCPU i, by the phase of its lane: a step, a need, a trap, a fill, a lookup or a mend; `Over` exactly
     /// where the vCPU may not step, and then nothing changes. Of ten events of a vCPU, between which no other vCPU steps,
-    /// at least one is a step.
-    #[tactic(auto, using(crate::proofs::Waiting::go_left))]
+    /// at least one is a step. Each event but `Over` leaves less of the vCPU's run, and less of the run of all.
+    #[tactic(auto, using(crate::proofs::Waiting::go_left, crate::proofs::LeftOver::go_falls))]
     pub fn go(&mut self, i: VcpuNo) -> Went
         ensures after { self.new ≡ go_of self.old i }
         ensures answer { result ≡ went_of self.old i }
         ensures nearer { result ≢ Went.Over → left_of self.new i < left_of self.old i }
+        ensures falls { result ≢ Went.Over → all_left self.new < all_left self.old }
     {
         self.make_event(i)
     }
