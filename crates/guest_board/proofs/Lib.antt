@@ -11,3 +11,4 @@ pub mod Ends
 pub mod Others
 pub mod Idle
 mod TestKernels
+pub mod Caches

@@ -4,6 +4,7 @@ ghost use Rattle.std.specs.Prelude.{◌≡◌, ◌+◌, ◌-◌, ◌%◌, ◌∷
 ghost use Rattle.gstage.specs.Stage.{IsFor};
 ghost use Rattle.guest_ram.specs.Ram.{Ram, CanStore};
 ghost use Rattle.device_feed.specs.Devices.{Devices};
+ghost use Rattle.sv39_walk.specs.Cache.{Fits, KeepsFits};
 ghost use Rattle.rv_step.specs.Site.{Site};
 ghost use Rattle.rv_step.specs.Kept.{KeepsText};
 ghost use Rattle.fc_numbers.specs.Numbers.{get_reg};
@@ -15,7 +16,7 @@ ghost use Rattle.guest_input.specs.Accepted.{IsImage, IsSetupFor};
 ghost use Rattle.guest_board.specs.First.{first_seat};
 ghost use Rattle.guest_board.specs.Seen.{verdict_of, after_verdict, seen_by, trapped_at};
 
-use crate::open::{start_ram, start_slots};
+use crate::open::{new_caches, start_ram, start_slots};
 use crate::rules::{Rules, rules_of};
 use crate::seen::{Seen, Verdict, Windows, judge};
 use crate::slot::{Slot, break_others, deepen, end_by};
@@ -35,6 +36,7 @@ use guest_ram::GuestRam;
 use rv_step::vcpu::Vcpu;
 use std::alloc::Global;
 use std::marker::Model;
+use sv39_walk::cache::WalkCache;
 use switch_hook::app_name;
 
 /// The vCPUs, the memory, the devices, the console and the schedule of a run. In contracts it is the rules of the run, the
@@ -44,6 +46,8 @@ pub struct Board {
     pub(crate) rules: Rules,
     pub(crate) slots: Vec<Slot>,
     pub(crate) ram: GuestRam,
+    /// For each vCPU the translations that it made last.
+    pub(crate) caches: Vec<WalkCache>,
     pub(crate) feed: Feed,
     pub(crate) console: Vec<u8>,
     pub(crate) schedule: Vec<VcpuNo>,
@@ -138,6 +142,7 @@ fn carry_slot<S: SecondStage>(
     start: StepStart,
     slot: &mut Slot,
     ram: &mut GuestRam,
+    cache: &mut WalkCache,
     feed: &mut Feed,
     stage: &S,
     put: &mut Option<u8>,
@@ -145,6 +150,7 @@ fn carry_slot<S: SecondStage>(
 ) -> StepOutcome
     requires stage { IsFor (S.text stage.now) (S.ram stage.now) ram.old }
     requires stamps { CanStore ram.old }
+    requires fits { Fits ram.old cache.old }
     requires made { slot.old.made < 2 ^ 32 - 1 }
     requires depth { slot.old.depth < 2 ^ 32 - 1 }
     ensures slot { let s : Site = record { vcpu = slot.old.vcpu; ram = ram.old; devices = feed.old } in slot.new ≡ slot_after rules.now s slot.old start (made_by start clock s) }
@@ -153,6 +159,8 @@ fn carry_slot<S: SecondStage>(
     ensures put { let s : Site = record { vcpu = slot.old.vcpu; ram = ram.old; devices = feed.old } in put.new ≡ (made_by start clock s).put }
     ensures left { let s : Site = record { vcpu = slot.old.vcpu; ram = ram.old; devices = feed.old } in result ≡ (made_by start clock s).left }
     ensures keeps { KeepsText ram.old ram.new }
+    ensures fits { Fits ram.new cache.new }
+    ensures others { KeepsFits ram.old ram.new }
 {
     // Memory is laid out lawfully, so a step keeps its text; the call says so.
     let _laid = ram.text();
@@ -162,7 +170,7 @@ fn carry_slot<S: SecondStage>(
     } else {
         None
     };
-    let left = carry_out(start, &mut slot.vcpu, ram, feed, stage, put, clock);
+    let left = carry_out(start, &mut slot.vcpu, ram, cache, feed, stage, put, clock);
     slot.made += 1;
     if at_hook && left.end.is_none() {
         slot.name = met;
@@ -180,6 +188,7 @@ fn carry_at<S: SecondStage>(
     slots: &mut [Slot],
     at: usize,
     ram: &mut GuestRam,
+    cache: &mut WalkCache,
     feed: &mut Feed,
     stage: &S,
     put: &mut Option<u8>,
@@ -188,6 +197,7 @@ fn carry_at<S: SecondStage>(
     requires inside { at < length slots.old }
     requires stage { IsFor (S.text stage.now) (S.ram stage.now) ram.old }
     requires stamps { CanStore ram.old }
+    requires fits { Fits ram.old cache.old }
     requires steps { (slice_index_or slots.old at no_slot).made < rules.now.steps }
     requires depths { (k : ℕ) → (slice_index_or slots.old k no_slot).depth ≤ clock }
     requires low { clock < 2 ^ 32 - 1 }
@@ -197,11 +207,23 @@ fn carry_at<S: SecondStage>(
     ensures put { let s : Site = record { vcpu = (slice_index_or slots.old at no_slot).vcpu; ram = ram.old; devices = feed.old } in put.new ≡ (made_by start clock s).put }
     ensures left { let s : Site = record { vcpu = (slice_index_or slots.old at no_slot).vcpu; ram = ram.old; devices = feed.old } in result ≡ (made_by start clock s).left }
     ensures keeps { KeepsText ram.old ram.new }
+    ensures fits { Fits ram.new cache.new }
+    ensures others { KeepsFits ram.old ram.new }
     ensures len { length slots.new ≡ length slots.old }
     ensures one_less { left_total rules.now.steps slots.new + 1 ≡ left_total rules.now.steps slots.old }
     ensures depths { (k : ℕ) → (slice_index_or slots.new k no_slot).depth ≤ clock + 1 }
 {
-    let left = carry_slot(rules, start, &mut slots[at], ram, feed, stage, put, clock);
+    let left = carry_slot(
+        rules,
+        start,
+        &mut slots[at],
+        ram,
+        cache,
+        feed,
+        stage,
+        put,
+        clock,
+    );
     break_others(slots, at, left.wrote);
     left
 }
@@ -219,12 +241,14 @@ impl Board {
         let slots = start_slots(alloc, image.entry, &setup.start, setup.vcpus)?;
         let ram = start_ram(alloc, image, setup)?;
         let feed = Feed::open(alloc, setup)?;
+        let caches = new_caches(alloc, setup.vcpus)?;
         let console = Vec::with_capacity(alloc, total)?;
         let schedule = Vec::with_capacity(alloc, total)?;
         Ok(Board {
             rules: rules_of(image, setup),
             slots,
             ram,
+            caches,
             feed,
             console,
             schedule,
@@ -323,12 +347,22 @@ impl Board {
     }
 
     /// What the next step of vCPU i begins with.
-    fn next_start<S: SecondStage>(&self, i: VcpuNo, stage: &S) -> StepStart
-        requires inside { i < length self.now.state.slots }
-        requires stage { IsFor (S.text stage.now) (S.ram stage.now) self.now.state.ram }
-        ensures { result ≡ next_start self.now.state i }
+    fn next_start<S: SecondStage>(&mut self, i: VcpuNo, stage: &S) -> StepStart
+        requires inside { i < length self.old.state.slots }
+        requires stage { IsFor (S.text stage.now) (S.ram stage.now) self.old.state.ram }
+        ensures value { result ≡ next_start self.old.state i }
+        ensures stays { self.new ≡ self.old }
     {
-        begin(self.vcpu(i), &self.ram, &self.feed, stage, self.clock())
+        let clock = self.clock();
+        let at = i.0 as usize;
+        begin(
+            &self.slots[at].vcpu,
+            &self.ram,
+            &mut self.caches[at],
+            &self.feed,
+            stage,
+            clock,
+        )
     }
 
     /// The rest of a step of vCPU i that begins so.
@@ -348,6 +382,7 @@ impl Board {
             &mut self.slots,
             at,
             &mut self.ram,
+            &mut self.caches[at],
             &mut self.feed,
             stage,
             &mut put,
@@ -385,14 +420,16 @@ impl Board {
 
     /// What vCPU i does by these windows.
     #[tactic(auto, unfolding(crate::specs::Seen::verdict_of))]
-    fn verdict<S: SecondStage>(&self, i: VcpuNo, seen: &Windows, stage: &S) -> Verdict
-        requires stage { IsFor (S.text stage.now) (S.ram stage.now) self.now.state.ram }
-        ensures { result ≡ verdict_of self.now.rules self.now.state i seen.now }
+    fn verdict<S: SecondStage>(&mut self, i: VcpuNo, seen: &Windows, stage: &S) -> Verdict
+        requires stage { IsFor (S.text stage.now) (S.ram stage.now) self.old.state.ram }
+        ensures value { result ≡ verdict_of self.old.rules self.old.state i seen.now }
+        ensures stays { self.new ≡ self.old }
     {
         if !self.may(i) {
             return Verdict::Idle;
         }
-        judge(self.ram.text(), seen, self.next_start(i, stage))
+        let start = self.next_start(i, stage);
+        judge(self.ram.text(), seen, start)
     }
 
     /// What stands at a trap of vCPU i on the zero at a place of text: the clock, the place and the call chain.

@@ -1,9 +1,10 @@
 //! The parts of a board before the first step.
 
-ghost use Rattle.std.specs.Prelude.{◌≡◌, ◌+◌, ◌≤◌, IfOk, Some, None, length};
+ghost use Rattle.std.specs.Prelude.{◌≡◌, ◌+◌, ◌≤◌, All, IfOk, Some, None, length};
 ghost use Rattle.guest_input.specs.Accepted.{IsImage, IsSetupFor, PartsEndBy};
 ghost use Rattle.guest_input.specs.TextIn.{cut};
-ghost use Rattle.guest_ram.specs.Ram.{placed};
+ghost use Rattle.guest_ram.specs.Ram.{Ram, placed};
+ghost use Rattle.sv39_walk.specs.Cache.{Fits, empty_cache};
 ghost use Rattle.fc_numbers.specs.Spans.{text_size};
 ghost use Rattle.fc_numbers.specs.declared.places.TheConstants.{RAM_MOST, RAM_START};
 ghost use Rattle.guest_board.specs.First.{first_slot, first_slots, first_vcpu, first_ram, with_parts, text_parts};
@@ -21,6 +22,8 @@ use guest_ram::GuestRam;
 use rv_csr::CsrFile;
 use rv_step::vcpu::Vcpu;
 use std::alloc::Global;
+use sv39_walk::cache::WalkCache;
+use sv39_walk::laws::new_caches_fit;
 
 fn start_vcpu(entry: u64, i: u8) -> Vcpu
     ensures { result ≡ first_vcpu entry i }
@@ -72,6 +75,19 @@ pub(crate) fn start_slots(
         slots.push(start_slot(entry, name, i))?;
     }
     Ok(slots)
+}
+
+/// For each vCPU a cache that keeps nothing.
+pub(crate) fn new_caches(alloc: Global, count: u8) -> Result<Vec<WalkCache>, NoMemory>
+    ensures many { IfOk result (λ caches. length caches.items ≡ count) }
+    ensures fit { IfOk result (λ caches. (ram : Ram) → All (Fits ram) caches.items) }
+{
+    new_caches_fit();
+    let mut caches = Vec::new(alloc);
+    for _ in 0..count {
+        caches.push(WalkCache::new())?;
+    }
+    Ok(caches)
 }
 
 /// Places the ranges of text, whose bytes stand one after another.

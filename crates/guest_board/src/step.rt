@@ -5,7 +5,9 @@ ghost use Rattle.gstage.specs.Stage.{IsFor};
 ghost use Rattle.guest_ram.specs.Ram.{Ram, CanStore};
 ghost use Rattle.rv_decode.specs.Rows.{decode_of, decode16_of};
 ghost use Rattle.rv_step.specs.Site.{Site};
-ghost use Rattle.device_feed.specs.Devices.{Devices};
+ghost use Rattle.device_feed.specs.Devices.{Devices, lines_of};
+ghost use Rattle.sv39_walk.specs.Cache.{Fits, KeepsFits};
+ghost use Rattle.trap_unit.specs.Trap.{due};
 ghost use Rattle.guest_board.specs.Fetch.{fetched, text_place};
 ghost use Rattle.guest_board.specs.declared.step.StepStart.TheVariants.{Fetches as Begun};
 ghost use Rattle.guest_board.specs.Made.{Made, ended, ends, in_trap, left_by, nesting_of, plain, settled, told, trapped, vcpu_after};
@@ -21,7 +23,8 @@ use rv_decode::{Inst, decode16, decode32};
 use rv_step::causes::ILLEGAL_INSTRUCTION;
 use rv_step::execute::execute;
 use rv_step::vcpu::{Effect, Vcpu};
-use trap_unit::{INTERRUPT, enter, pending};
+use sv39_walk::cache::WalkCache;
+use trap_unit::{INTERRUPT, enter, may_interrupt, pending};
 
 /// What a step does to the depth of traps.
 #[derive(Debug, Clone, Copy)]
@@ -112,6 +115,7 @@ fn act<S: SecondStage>(
     len: u8,
     v: &mut Vcpu,
     ram: &mut GuestRam,
+    cache: &mut WalkCache,
     feed: &mut Feed,
     stage: &S,
     put: &mut Option<u8>,
@@ -119,7 +123,10 @@ fn act<S: SecondStage>(
 ) -> StepOutcome
     requires stage { IsFor (S.text stage.now) (S.ram stage.now) ram.old }
     requires stamps { CanStore ram.old }
-    ensures { let got : Made = record { vcpu = v.new; ram = ram.new; devices = feed.new; put = put.new; left = result }
+    requires fits { Fits ram.old cache.old }
+    ensures fits { Fits ram.new cache.new }
+    ensures others { KeepsFits ram.old ram.new }
+    ensures made { let got : Made = record { vcpu = v.new; ram = ram.new; devices = feed.new; put = put.new; left = result }
         in let s : Site = record { vcpu = v.old; ram = ram.old; devices = feed.old }
         in got ≡ by_inst inst bits len clock s }
 {
@@ -130,7 +137,7 @@ fn act<S: SecondStage>(
             left_plain(Nesting::Traps)
         }
         Some(inst) => {
-            let effect = execute(&inst, len, v, ram, feed, stage, put, clock);
+            let effect = execute(&inst, len, v, ram, cache, feed, stage, put, clock);
             settle(v, effect, bits, nesting_by(&inst))
         }
     }
@@ -141,6 +148,7 @@ fn carry_out_fetch<S: SecondStage>(
     got: Fetched,
     v: &mut Vcpu,
     ram: &mut GuestRam,
+    cache: &mut WalkCache,
     feed: &mut Feed,
     stage: &S,
     put: &mut Option<u8>,
@@ -148,7 +156,10 @@ fn carry_out_fetch<S: SecondStage>(
 ) -> StepOutcome
     requires stage { IsFor (S.text stage.now) (S.ram stage.now) ram.old }
     requires stamps { CanStore ram.old }
-    ensures { let made : Made = record { vcpu = v.new; ram = ram.new; devices = feed.new; put = put.new; left = result }
+    requires fits { Fits ram.old cache.old }
+    ensures fits { Fits ram.new cache.new }
+    ensures others { KeepsFits ram.old ram.new }
+    ensures made { let made : Made = record { vcpu = v.new; ram = ram.new; devices = feed.new; put = put.new; left = result }
         in let s : Site = record { vcpu = v.old; ram = ram.old; devices = feed.old }
         in made ≡ made_by (Begun got) clock s }
 {
@@ -160,6 +171,7 @@ fn carry_out_fetch<S: SecondStage>(
                 2,
                 v,
                 ram,
+                cache,
                 feed,
                 stage,
                 put,
@@ -168,7 +180,18 @@ fn carry_out_fetch<S: SecondStage>(
         }
         Fetched::Long { first, second, .. } => {
             let bits = first as u32 + 65536 * second as u32;
-            act(decode32(bits), bits, 4, v, ram, feed, stage, put, clock)
+            act(
+                decode32(bits),
+                bits,
+                4,
+                v,
+                ram,
+                cache,
+                feed,
+                stage,
+                put,
+                clock,
+            )
         }
         Fetched::Faults { cause, tval } => {
             *put = None;
@@ -192,6 +215,7 @@ pub(crate) fn carry_out<S: SecondStage>(
     start: StepStart,
     v: &mut Vcpu,
     ram: &mut GuestRam,
+    cache: &mut WalkCache,
     feed: &mut Feed,
     stage: &S,
     put: &mut Option<u8>,
@@ -199,7 +223,10 @@ pub(crate) fn carry_out<S: SecondStage>(
 ) -> StepOutcome
     requires stage { IsFor (S.text stage.now) (S.ram stage.now) ram.old }
     requires stamps { CanStore ram.old }
-    ensures { let made : Made = record { vcpu = v.new; ram = ram.new; devices = feed.new; put = put.new; left = result }
+    requires fits { Fits ram.old cache.old }
+    ensures fits { Fits ram.new cache.new }
+    ensures others { KeepsFits ram.old ram.new }
+    ensures made { let made : Made = record { vcpu = v.new; ram = ram.new; devices = feed.new; put = put.new; left = result }
         in let s : Site = record { vcpu = v.old; ram = ram.old; devices = feed.old }
         in made ≡ made_by start clock s }
 {
@@ -209,7 +236,18 @@ pub(crate) fn carry_out<S: SecondStage>(
             trap(v, INTERRUPT + code as u64, 0);
             left_plain(Nesting::Interrupts)
         }
-        StepStart::Fetches(got) => carry_out_fetch(got, v, ram, feed, stage, put, clock),
+        StepStart::Fetches(got) => carry_out_fetch(got, v, ram, cache, feed, stage, put, clock),
+    }
+}
+
+/// The interrupt that is due at this clock, if one is. The lines are asked for only where one may be taken.
+fn due_now(v: &Vcpu, feed: &Feed, clock: u64) -> Option<u8>
+    ensures { result ≡ due v.now.csr v.now.mode (lines_of feed.now v.now.number clock) }
+{
+    if may_interrupt(&v.csr, v.mode) {
+        pending(&v.csr, v.mode, feed.lines(v.number, clock))
+    } else {
+        None
     }
 }
 
@@ -218,16 +256,19 @@ pub(crate) fn carry_out<S: SecondStage>(
 pub(crate) fn begin<S: SecondStage>(
     v: &Vcpu,
     ram: &GuestRam,
+    cache: &mut WalkCache,
     feed: &Feed,
     stage: &S,
     clock: u64,
 ) -> StepStart
-    requires { IsFor (S.text stage.now) (S.ram stage.now) ram.now }
-    ensures { let s : Site = record { vcpu = v.now; ram = ram.now; devices = feed.now } in result ≡ step_start s clock }
+    requires stage { IsFor (S.text stage.now) (S.ram stage.now) ram.now }
+    requires fits { Fits ram.now cache.old }
+    ensures value { let s : Site = record { vcpu = v.now; ram = ram.now; devices = feed.now } in result ≡ step_start s clock }
+    ensures fits { Fits ram.now cache.new }
 {
-    match pending(&v.csr, v.mode, feed.lines(v.number, clock)) {
+    match due_now(v, feed, clock) {
         Some(code) => StepStart::Interrupt(code),
-        None => StepStart::Fetches(fetch(v, ram, stage)),
+        None => StepStart::Fetches(fetch(v, ram, cache, stage)),
     }
 }
 

@@ -25,4 +25,6 @@ invariant_of-result c =
       console_room = omega (arith, left, c.in_ok-console.ensures.len, c.in_ok-console.ensures.exact);
       depths = λ k. subst (λ (xs : List Slot). (slice_index_or xs k no_slot).depth ≤ vec_len c.in_ok-schedule.schedule) (sym c.in_ok-slots.ensures) (no_depth entry name vcpus k (vec_len c.in_ok-schedule.schedule));
       stamps = λ k. subst (λ (r : Ram). slice_index r.stamps k ≤ vec_len c.in_ok-schedule.schedule) (sym c.in_ok-ram.ensures) (no_stamp c.args.image.now c.args.setup.now.ram k (vec_len c.in_ok-schedule.schedule));
+      caches = c.in_ok-caches.ensures.many ∙ sym slots;
+      fit = c.in_ok-caches.ensures.fit c.in_ok-ram.ram;
     }

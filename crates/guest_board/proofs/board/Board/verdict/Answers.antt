@@ -15,6 +15,7 @@ judge-requires-clause-ranges g c =
 
 pub judge-requires-clause-inside : goal.judge-requires-clause-inside
 judge-requires-clause-inside g c =
-    subst (λ (ss : List Span). IsPlacedIn ss (place_of c.next_start.result)) (sym c.text.ensures.value)
-    (subst (λ (start : StepStart). IsPlacedIn c.self.inside.ram.text (place_of start)) (sym c.next_start.ensures)
-    (subst (λ (b : Seat). IsPlacedIn b.state.ram.text (place_of (next_start c.args.self.now.state c.args.i))) (sym c.self.view_is) (start_placed c.args.self.now.state c.args.i)))
+    subst (λ (ss : List Span). IsPlacedIn ss (place_of c.next_start-start.result)) (sym c.text.ensures.value)
+    (subst (λ (start : StepStart). IsPlacedIn c.self.inside.ram.text (place_of start)) (sym c.next_start-start.ensures.value)
+    (subst (λ (b : Seat). IsPlacedIn b.state.ram.text (place_of (next_start c.args.self.now.state c.args.i))) (sym c.self.view_is)
+    (subst (λ (b : Seat). IsPlacedIn b.state.ram.text (place_of (next_start c.args.self.now.state c.args.i))) (sym c.next_start-start.ensures.stays) (start_placed c.args.self.now.state c.args.i))))
