@@ -5,7 +5,10 @@ ghost use Rattle.fc_numbers.specs.Spans.{IsTextBelow};
 ghost use Rattle.guest_input.specs.Accepted.{IsImage, IsSetupFor};
 ghost use Rattle.guest_input.specs.Text.{spans_of};
 
-use crate::kernels::{FIVE_LINES, FIVE_LINES_VIEWS, HANDLER, HANDLER_VIEWS, LINES, LINES_VIEWS, ONE, RAISED, SHORT, SPLIT, SPLIT_VIEWS, TWO, UNMAPPED, UNMAPPED_VIEWS};
+use crate::kernels::{
+    FIVE_LINES, FIVE_LINES_VIEWS, HANDLER, HANDLER_VIEWS, LINES, LINES_VIEWS, ONE, RAISED, SHORT,
+    SPLIT, SPLIT_VIEWS, TWO, UNMAPPED, UNMAPPED_VIEWS,
+};
 use crate::lane::Went;
 use crate::machine::Core;
 use crate::scripts::{Script, are_digits, play};
@@ -158,7 +161,10 @@ fn missing_code_is_restored_and_logged_once(rt: HostRuntime) -> Result<(), Fail>
 /// Whether this is the only entry of the log: of this clock, vCPU, group and place.
 fn is_only(log: &[LogEntry], at: u32, vcpu: u8, group: u16, pc: u64) -> bool {
     match log {
-        [entry] => entry.at == at && entry.vcpu.0 == vcpu && entry.group.0 == group && entry.pc.0 == pc,
+        [entry] => entry.at == at
+            && entry.vcpu.0 == vcpu
+            && entry.group.0 == group
+            && entry.pc.0 == pc,
         _ => false,
     }
 }
@@ -217,8 +223,26 @@ fn two_vcpus_recover_one_group_once(rt: HostRuntime) -> Result<(), Fail> {
 fn an_entry_stands_though_its_code_is_never_run(rt: HostRuntime) -> Result<(), Fail> {
     // An interrupt comes before the recovered code; a page is taken away before it.
     for (image, setup, views, events, schedule, at, group, end) in [
-        (HANDLER, RAISED, HANDLER_VIEWS, "00000000000111000000", "00000001000", 7, 2, End::Shutdown),
-        (UNMAPPED, SHORT, UNMAPPED_VIEWS, "0000000000001111110", "000000001111010101011111", 8, 1, End::Spent),
+        (
+            HANDLER,
+            RAISED,
+            HANDLER_VIEWS,
+            "00000000000111000000",
+            "00000001000",
+            7,
+            2,
+            End::Shutdown,
+        ),
+        (
+            UNMAPPED,
+            SHORT,
+            UNMAPPED_VIEWS,
+            "0000000000001111110",
+            "000000001111010101011111",
+            8,
+            1,
+            End::Spent,
+        ),
     ] {
         let script = Script {
             image,
