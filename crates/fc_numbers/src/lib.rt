@@ -5,7 +5,8 @@
 //! - [`spans`]: kernel text as ranges of places, and the offsets of its bytes; [`laws`]: how the two go together.
 //! - [`regs`]: the 32 integer registers, and sign extension.
 //! - [`name`]: the name of an application.
-//! - [`pair`]: the two halfwords of a view's pages that a lane holds.
+//! - [`pair`]: two halfwords of a view's pages.
+//! - [`window`]: a line of a view's pages, of which a lane holds copies.
 //! - [`shared`]: bytes that several owners share and nobody changes, as the text of an image.
 //! - [`memory`]: want of memory, the one free answer.
 //!
@@ -22,3 +23,4 @@ pub mod places;
 pub mod regs;
 pub mod shared;
 pub mod spans;
+pub mod window;

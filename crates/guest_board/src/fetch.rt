@@ -16,7 +16,7 @@ use rv_step::vcpu::Vcpu;
 
 /// Where a halfword is fetched from: whether in text, and its place; or why it is not.
 #[derive(Debug, Clone, Copy)]
-pub enum Half {
+pub enum HalfPlace {
     In { text: bool, place: Gpa },
     Faults { cause: u64, tval: u64 },
     Stops(Stop),
@@ -44,26 +44,26 @@ pub enum Fetched {
 }
 
 #[tactic(auto, unfolding(crate::specs::Fetch::half_place))]
-fn find<S: SecondStage>(v: &Vcpu, ram: &GuestRam, stage: &S, va: Va) -> Half
+fn find<S: SecondStage>(v: &Vcpu, ram: &GuestRam, stage: &S, va: Va) -> HalfPlace
     requires { IsFor (S.text stage.now) (S.ram stage.now) ram.now }
     ensures value { result ≡ half_place v.now ram.now va }
     ensures inside { HalfInside ram.now result }
 {
     match resolve(v, ram, stage, Access::Fetch, va) {
-        Resolved::Text(place) => Half::In { text: true, place },
+        Resolved::Text(place) => HalfPlace::In { text: true, place },
         Resolved::Ram(place) => match v.mode {
-            Mode::Vs => Half::Stops(Stop::KernelOutsideText),
-            Mode::Vu => Half::In { text: false, place },
+            Mode::Vs => HalfPlace::Stops(Stop::KernelOutsideText),
+            Mode::Vu => HalfPlace::In { text: false, place },
         },
-        Resolved::PageFault => Half::Faults {
+        Resolved::PageFault => HalfPlace::Faults {
             cause: FETCH_PAGE_FAULT,
             tval: va.0,
         },
-        Resolved::AccessFault => Half::Faults {
+        Resolved::AccessFault => HalfPlace::Faults {
             cause: FETCH_ACCESS_FAULT,
             tval: va.0,
         },
-        Resolved::TableInText => Half::Stops(Stop::TableInText),
+        Resolved::TableInText => HalfPlace::Stops(Stop::TableInText),
     }
 }
 
@@ -92,9 +92,9 @@ pub(crate) fn fetch<S: SecondStage>(v: &Vcpu, ram: &GuestRam, stage: &S) -> Fetc
     ensures { result ≡ fetched v.now ram.now }
 {
     match find(v, ram, stage, v.pc) {
-        Half::Faults { cause, tval } => Fetched::Faults { cause, tval },
-        Half::Stops(stop) => Fetched::Stops(stop),
-        Half::In { text, place } => {
+        HalfPlace::Faults { cause, tval } => Fetched::Faults { cause, tval },
+        HalfPlace::Stops(stop) => Fetched::Stops(stop),
+        HalfPlace::In { text, place } => {
             let first = read(ram, place);
             if first % 4 != 3 {
                 return Fetched::Short {
@@ -104,9 +104,9 @@ pub(crate) fn fetch<S: SecondStage>(v: &Vcpu, ram: &GuestRam, stage: &S) -> Fetc
                 };
             }
             match find(v, ram, stage, Va(v.pc.0.wrapping_add(2))) {
-                Half::Faults { cause, tval } => Fetched::Faults { cause, tval },
-                Half::Stops(stop) => Fetched::Stops(stop),
-                Half::In {
+                HalfPlace::Faults { cause, tval } => Fetched::Faults { cause, tval },
+                HalfPlace::Stops(stop) => Fetched::Stops(stop),
+                HalfPlace::In {
                     text: other,
                     place: next,
                 } => {

@@ -7,7 +7,9 @@ ghost use Rattle.rv_decode.specs.Rows.{decode_of, decode16_of};
 ghost use Rattle.rv_step.specs.Site.{Site};
 ghost use Rattle.device_feed.specs.Devices.{Devices};
 ghost use Rattle.guest_board.specs.Fetch.{fetched, text_place};
-ghost use Rattle.guest_board.specs.Step.{Made, in_trap, vcpu_after, left_by, by_inst, by_fetch, nesting_of, ready_of, ready_by, made_by, due_at, place_of, told, plain, word, with_vcpu};
+ghost use Rattle.guest_board.specs.declared.step.StepStart.TheVariants.{Fetches as Begun};
+ghost use Rattle.guest_board.specs.Made.{Made, ended, ends, in_trap, left_by, nesting_of, plain, settled, told, trapped, vcpu_after};
+ghost use Rattle.guest_board.specs.Step.{by_inst, due_at, made_by, place_of, start_by, step_start, word};
 
 use crate::fetch::{Fetched, fetch, place_in_text};
 use device_feed::feed::Feed;
@@ -30,9 +32,10 @@ pub enum Nesting {
     Returns,
 }
 
-/// What a step leaves besides the machine's parts: the end of the run, the place that was written, the traps.
+/// What a step leaves besides the machine's parts: the end of the run, the place that was written, and what it does to
+/// the depth of traps.
 #[derive(Debug, Clone, Copy)]
-pub struct Left {
+pub struct StepOutcome {
     pub end: Option<End>,
     pub wrote: Option<Gpa>,
     pub nesting: Nesting,
@@ -40,22 +43,22 @@ pub struct Left {
 
 /// What a step begins with: an interrupt that is due, by its code, or a fetch.
 #[derive(Debug, Clone, Copy)]
-pub enum Ready {
+pub enum StepStart {
     Interrupt(u8),
     Fetches(Fetched),
 }
 
-fn left_plain(nesting: Nesting) -> Left
+fn left_plain(nesting: Nesting) -> StepOutcome
     ensures { result ≡ plain nesting }
 {
-    Left {
+    StepOutcome {
         end: None,
         wrote: None,
         nesting,
     }
 }
 
-#[tactic(auto, unfolding(crate::specs::Step::in_trap))]
+#[tactic(auto, unfolding(crate::specs::Made::in_trap))]
 fn trap(v: &mut Vcpu, cause: u64, tval: u64)
     ensures { v.new ≡ in_trap v.old cause tval }
 {
@@ -65,12 +68,12 @@ fn trap(v: &mut Vcpu, cause: u64, tval: u64)
     v.mode = Mode::Vs;
 }
 
-fn settle(v: &mut Vcpu, effect: Effect, bits: u32, nesting: Nesting) -> Left
+fn settle(v: &mut Vcpu, effect: Effect, bits: u32, nesting: Nesting) -> StepOutcome
     ensures vcpu { v.new ≡ vcpu_after effect bits v.old }
     ensures left { result ≡ left_by effect nesting }
 {
     match effect {
-        Effect::Next { wrote } => Left {
+        Effect::Next { wrote } => StepOutcome {
             end: None,
             wrote,
             nesting,
@@ -84,7 +87,7 @@ fn settle(v: &mut Vcpu, effect: Effect, bits: u32, nesting: Nesting) -> Left
             trap(v, cause, value);
             left_plain(Nesting::Traps)
         }
-        Effect::End(end) => Left {
+        Effect::End(end) => StepOutcome {
             end: Some(end),
             wrote: None,
             nesting: Nesting::Stays,
@@ -92,7 +95,7 @@ fn settle(v: &mut Vcpu, effect: Effect, bits: u32, nesting: Nesting) -> Left
     }
 }
 
-#[tactic(auto, unfolding(crate::specs::Step::nesting_of))]
+#[tactic(auto, unfolding(crate::specs::Made::nesting_of))]
 fn nesting_by(inst: &Inst) -> Nesting
     ensures { result ≡ nesting_of inst.now }
 {
@@ -113,7 +116,7 @@ fn act<S: SecondStage>(
     stage: &S,
     put: &mut Option<u8>,
     clock: u64,
-) -> Left
+) -> StepOutcome
     requires stage { IsFor (S.text stage.now) (S.ram stage.now) ram.old }
     requires stamps { CanStore ram.old }
     ensures { let got : Made = record { vcpu = v.new; ram = ram.new; devices = feed.new; put = put.new; left = result }
@@ -133,7 +136,7 @@ fn act<S: SecondStage>(
     }
 }
 
-#[tactic(auto, unfolding(crate::specs::Step::by_fetch))]
+#[tactic(auto, unfolding(crate::specs::Step::made_by))]
 fn carry_out_fetch<S: SecondStage>(
     got: Fetched,
     v: &mut Vcpu,
@@ -142,12 +145,12 @@ fn carry_out_fetch<S: SecondStage>(
     stage: &S,
     put: &mut Option<u8>,
     clock: u64,
-) -> Left
+) -> StepOutcome
     requires stage { IsFor (S.text stage.now) (S.ram stage.now) ram.old }
     requires stamps { CanStore ram.old }
     ensures { let made : Made = record { vcpu = v.new; ram = ram.new; devices = feed.new; put = put.new; left = result }
         in let s : Site = record { vcpu = v.old; ram = ram.old; devices = feed.old }
-        in made ≡ by_fetch got clock s }
+        in made ≡ made_by (Begun got) clock s }
 {
     match got {
         Fetched::Short { half, .. } => {
@@ -174,7 +177,7 @@ fn carry_out_fetch<S: SecondStage>(
         }
         Fetched::Stops(stop) => {
             *put = None;
-            Left {
+            StepOutcome {
                 end: Some(End::Stopped(stop)),
                 wrote: None,
                 nesting: Nesting::Stays,
@@ -186,54 +189,54 @@ fn carry_out_fetch<S: SecondStage>(
 /// The rest of a step that begins so.
 #[tactic(auto, unfolding(crate::specs::Step::made_by))]
 pub(crate) fn carry_out<S: SecondStage>(
-    ready: Ready,
+    start: StepStart,
     v: &mut Vcpu,
     ram: &mut GuestRam,
     feed: &mut Feed,
     stage: &S,
     put: &mut Option<u8>,
     clock: u64,
-) -> Left
+) -> StepOutcome
     requires stage { IsFor (S.text stage.now) (S.ram stage.now) ram.old }
     requires stamps { CanStore ram.old }
     ensures { let made : Made = record { vcpu = v.new; ram = ram.new; devices = feed.new; put = put.new; left = result }
         in let s : Site = record { vcpu = v.old; ram = ram.old; devices = feed.old }
-        in made ≡ made_by ready clock s }
+        in made ≡ made_by start clock s }
 {
-    match ready {
-        Ready::Interrupt(code) => {
+    match start {
+        StepStart::Interrupt(code) => {
             *put = None;
             trap(v, INTERRUPT + code as u64, 0);
             left_plain(Nesting::Interrupts)
         }
-        Ready::Fetches(got) => carry_out_fetch(got, v, ram, feed, stage, put, clock),
+        StepStart::Fetches(got) => carry_out_fetch(got, v, ram, feed, stage, put, clock),
     }
 }
 
 /// What the vCPU's next step begins with.
-#[tactic(auto, unfolding(crate::specs::Step::ready_of))]
+#[tactic(auto, unfolding(crate::specs::Step::step_start))]
 pub(crate) fn begin<S: SecondStage>(
     v: &Vcpu,
     ram: &GuestRam,
     feed: &Feed,
     stage: &S,
     clock: u64,
-) -> Ready
+) -> StepStart
     requires { IsFor (S.text stage.now) (S.ram stage.now) ram.now }
-    ensures { let s : Site = record { vcpu = v.now; ram = ram.now; devices = feed.now } in result ≡ ready_of s clock }
+    ensures { let s : Site = record { vcpu = v.now; ram = ram.now; devices = feed.now } in result ≡ step_start s clock }
 {
     match pending(&v.csr, v.mode, feed.lines(v.number, clock)) {
-        Some(code) => Ready::Interrupt(code),
-        None => Ready::Fetches(fetch(v, ram, stage)),
+        Some(code) => StepStart::Interrupt(code),
+        None => StepStart::Fetches(fetch(v, ram, stage)),
     }
 }
 
 /// The place in text that a step fetches which begins so.
-pub(crate) fn place_fetched(ready: &Ready) -> Option<Gpa>
-    ensures { result ≡ place_of ready.now }
+pub(crate) fn place_fetched(start: &StepStart) -> Option<Gpa>
+    ensures { result ≡ place_of start.now }
 {
-    match ready {
-        Ready::Interrupt(_) => None,
-        Ready::Fetches(got) => place_in_text(got),
+    match start {
+        StepStart::Interrupt(_) => None,
+        StepStart::Fetches(got) => place_in_text(got),
     }
 }

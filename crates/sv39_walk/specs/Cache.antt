@@ -1,7 +1,7 @@
 -- Answers of walks that are kept, and when they still hold.
 -- A kept answer stands with the frames of the entries that its walk read and their stamps. It is live while no frame of
 -- them was stored to: no fence is needed, since a translation is never stale.
-use Rattle.std.specs.Prelude.{◌≡◌, ℕ, ◌-◌, ◌*◌, ◌%◌, ◌<◌, ◌≤◌, ◌==◌, Bool, not, ◌&&◌, if◌then◌else◌, All, Contains, Option, Some, None, List, [], ◌∷◌, length, map, replicate}
+use Rattle.std.specs.Prelude.{◌≡◌, ℕ, ◌<◌, ◌≤◌, ◌==◌, Bool, not, ◌&&◌, if◌then◌else◌, All, Contains, Option, Some, None, List, [], ◌∷◌, length, map, replicate}
 use Rattle.std.proofs.Common.{zero, suc}
 use Rattle.guest_ram.specs.Ram.{Ram, frame_of, is_inside, is_text, stamp_of}
 use Rattle.page_table.specs.Mode.{is_canonical, levels_of, satp_mode}

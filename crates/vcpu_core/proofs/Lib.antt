@@ -1,11 +1,8 @@
-pub mod Verdicts
-pub mod Ready
-pub mod Truth
-pub mod Kept
-pub mod Start
 pub mod Bases
-pub mod Waiting
-pub mod EveryOrder
-pub mod OneVcpu
-pub mod Ended
+pub mod Verdicts
+pub mod Truth
+pub mod Run
+pub mod Turning
+pub mod Turned
+pub mod Mended
 pub mod Staged

@@ -1,20 +1,22 @@
 -- What restoring a group does to the mask, and what a patch does to the log.
-use Rattle.std.proofs.Common.{◌≡◌, ℕ, ◌+◌, ◌-◌, ◌*◌, ◌/◌, ◌%◌, ◌<◌, ◌≤◌, Bool, true, false, List, [], ◌∷◌, ◌++◌, length, arith, refl, ◌∙◌, sym}
-use Rattle.std.proofs.lemmas.List.{get_or_past}
+use Rattle.std.proofs.Common.{◌≡◌, ℕ, ◌+◌, ◌-◌, ◌*◌, ◌/◌, ◌%◌, ◌<◌, ◌≤◌, Bool, true, false, List, [], ◌∷◌, ◌++◌, length, ap, arith, refl, ◌∙◌, sym}
+use Rattle.std.proofs.lemmas.List.{get_or-drop, get_or-take, get_or_append_left, get_or_past, length-drop, length-take-le}
+use Rattle.std.proofs.Math.Seq.{get_or-append_seam}
 use Rattle.std.proofs.lemmas.List.FromFn.{fill_by_all, get_or-map-range_with_len, length-map-range_with_len}
 use borrow.Author.Tests.{ltb-true, ltb-false}
 use Rattle.std.proofs.lemmas.List.Sums.{count_by-le-length, sum_by-set}
-use Rattle.std.specs.Prelude.{◌==◌, ◌||◌, ◌&&◌, nat_le, nat_lt, if◌then◌else◌, slice_index, slice_index_or, slice_set, count_by, not}
+use Rattle.std.specs.Prelude.{◌==◌, ◌||◌, ◌&&◌, nat_le, nat_lt, if◌then◌else◌, slice_index, slice_index_or, slice_set, count_by, not, drop, take}
 use Rattle.std.proofs.lemmas.Grind.{common_steps}
 use Rattle.std.proofs.lemmas.Bool.Decides.{nat_tests}
 use Rattle.fc_numbers.specs.declared.places.Span.{Span}
 use Rattle.fc_numbers.specs.declared.places.TheConstants.{RAM_START}
-use Rattle.fc_numbers.specs.Spans.{AreRangesFrom, offset_in, place_in, size_of, text_size}
-use Rattle.fc_numbers.proofs.TextLaws.{offset_page, offset_place, size_pages}
+use Rattle.fc_numbers.specs.Spans.{AreRangesFrom, end_in, offset_in, place_in, size_of, text_size}
+use Rattle.fc_numbers.specs.declared.window.Window.{Window}
+use Rattle.fc_numbers.proofs.TextLaws.{end_near, offset_page, offset_place, size_pages}
 use Rattle.function_table.specs.Groups.{Groups, IsGroups, IsRangeOf, first_of, group_in, groups_count, half_of, in_text, is_between, range_of}
 use Rattle.function_table.proofs.GroupLemmas.{ends-within}
 use Rattle.chain_log.specs.declared.entry.LogEntry.{LogEntry}
-use Rattle.view_store.specs.Paged.{PagedView, masked, logged, patched, is_present, is_logged, AreMissed, IsLawfulView, mask_of}
+use Rattle.view_store.specs.Paged.{PagedView, masked, logged, patched, is_present, is_logged, AreMissed, IsLawfulView, WindowsAreOfTheMask, mask_of, window_of}
 
 -- halfwords past the end of text are 0
 half-past : (text : List ℕ) (n : ℕ) → length text ≤ 2 * n → half_of text n ≡ 0
@@ -173,3 +175,50 @@ pub patched-groups : (p : PagedView) (e : LogEntry) → (patched p e).groups ≡
 patched-groups p e = elim (is_present p.base p.log e.group) as (λ b. (if b then p else logged p e).groups ≡ p.groups) [ true ↦ refl | false ↦ refl ]
 
 pub ruleset patched_keeps = (patched-number, patched-groups)
+
+-- the halfwords of a line of text lie within the pages, and so does the one behind it where the range goes on
+pub line-within : (t : Groups) (line long : ℕ) → IsGroups t → text_size t.text ≡ 2 * long → 64 * line < text_size t.text
+    → (32 * line + 32 ≤ long) × (64 * line + 64 < end_in t.text (64 * line) → 32 * line + 32 < long)
+line-within t line long good whole within =
+    let pages : text_size t.text % 4096 ≡ 0 = size_pages t.text RAM_START good.text.ranges in
+    let near = end_near t.text RAM_START (64 * line) good.text.ranges within in
+    (omega (arith, pages, whole, within), λ more. omega (arith, near.1, more, whole))
+
+-- a line that is copied from pages that are the mask is the window of the mask
+pub window-of : (p : PagedView) (pages : List ℕ) (line : ℕ) → pages ≡ mask_of p → ((n : ℕ) → slice_index pages n ≡ masked p n)
+    → (let copy : Window = record { line = line; halves = take 32 (drop (32 * line) pages) ++ (if nat_lt (64 * line + 64) (end_in p.groups.text (64 * line)) then slice_index pages (32 * line + 32) else 0) ∷ [] } in copy) ≡ window_of p line
+unfolding window_of
+window-of p pages line same each = rw (each (32 * line + 32), same) refl
+
+part-long : (n : ℕ) (m : List ℕ) (from : ℕ) → from + n ≤ length m → length (take n (drop from m)) ≡ n
+part-long n m from room = length-take-le n (drop from m) (let long = length-drop from m in omega (arith, long, room))
+
+within-part : (n : ℕ) (m : List ℕ) (x from k : ℕ) → from + n ≤ length m → k < n → slice_index (take n (drop from m) ++ x ∷ []) k ≡ slice_index m (from + k)
+within-part n m x from k room low =
+    get_or_append_left (take n (drop from m)) (x ∷ []) 0 k (let long = part-long n m from room in omega (arith, long, low))
+    ∙ get_or-take n (drop from m) k 0 low ∙ get_or-drop from m k 0
+
+behind-part : (n : ℕ) (m : List ℕ) (x from : ℕ) → from + n ≤ length m → slice_index (take n (drop from m) ++ x ∷ []) n ≡ x
+behind-part n m x from room =
+    ap (λ i. slice_index (take n (drop from m) ++ x ∷ []) i) (sym (part-long n m from room)) ∙ get_or-append_seam (take n (drop from m)) x [] 0
+
+-- a halfword of the mask, where text has whole pages
+mask_half : (p : PagedView) (n : ℕ) → n < length p.text / 2 → slice_index (mask_of p) n ≡ masked p n
+mask_half p n within = get_or-map-range_with_len (masked p) 0 (length p.text / 2) n n 0 within (omega arith)
+
+pub windows_are_of_the_mask : WindowsAreOfTheMask
+unfolding window_of
+windows_are_of_the_mask p n k good size inside low goes_on =
+    let whole : text_size p.groups.text % 4096 ≡ 0 = size_pages p.groups.text RAM_START good.text.ranges in
+    let long : length (mask_of p) ≡ length p.text / 2 = length-map-range_with_len (masked p) 0 (length p.text / 2) in
+    let room : 32 * n + 32 ≤ length (mask_of p) = omega (arith, whole, long, size, inside) in
+    let last : ℕ = if nat_lt (64 * n + 64) (end_in p.groups.text (64 * n)) then masked p (32 * n + 32) else 0 in
+    elim (nat_lt k 32) as (λ b. nat_lt k 32 ≡ b → slice_index (take 32 (drop (32 * n) (mask_of p)) ++ last ∷ []) k ≡ masked p (32 * n + k)) [
+      | true ↦ λ is.
+          let first : k < 32 = ltb-true k 32 is in
+          within-part 32 (mask_of p) last (32 * n) k room first ∙ mask_half p (32 * n + k) (omega (arith, long, room, first))
+      | false ↦ λ is.
+          let at : k ≡ 32 = omega (arith, ltb-false k 32 is, low) in
+          let test : nat_lt (64 * n + 64) (end_in p.groups.text (64 * n)) ≡ true = (let more : 64 * n + 64 < end_in p.groups.text (64 * n) = goes_on at in grind (arith, nat_tests, more)) in
+          ap (λ i. slice_index (take 32 (drop (32 * n) (mask_of p)) ++ last ∷ []) i) at ∙ behind-part 32 (mask_of p) last (32 * n) room ∙ (rw test (ap (λ i. masked p (32 * n + i)) (sym at)))
+    ] refl

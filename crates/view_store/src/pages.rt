@@ -1,12 +1,13 @@
 //! The mask of a text: the halfwords of some groups, and zeros.
 
-ghost use Rattle.std.specs.Prelude.{◌≡◌, ◌≤◌, ◌<◌, ◌-◌, ◌*◌, ◌/◌, ◌%◌, ◌^◌, ◌&&◌, ◌==◌, ℕ, true, false, length, nat_lt, slice_index, slice_index_or, if◌then◌else◌, IfOk};
+ghost use Rattle.std.specs.Prelude.{◌≡◌, ◌≤◌, ◌<◌, ◌-◌, ◌*◌, ◌/◌, ◌%◌, ◌^◌, ◌&&◌, ◌==◌, ℕ, true, false, [], ◌∷◌, ◌+◌, ◌++◌, drop, take, length, nat_lt, slice_index, slice_index_or, if◌then◌else◌, IfOk};
 ghost use Rattle.fc_numbers.specs.Spans.{in_text, offset_in, text_size};
 ghost use Rattle.function_table.specs.Groups.{IsGroups, IsRangeOf, group_in, groups_count, half_of, is_between};
 
 use fc_numbers::memory::NoMemory;
 use fc_numbers::places::{Gpa, GroupNo, Span};
 use fc_numbers::spans::offset_of;
+use fc_numbers::window::Window;
 use function_table::halves::half;
 use function_table::table::Table;
 use std::alloc::Global;
@@ -79,4 +80,17 @@ pub(crate) fn mask(
         }
     }
     Ok(pages)
+}
+
+/// A line of the pages, and the halfword behind it where text goes on there; else 0.
+pub(crate) fn copy_line(pages: &[u16], line: u32, goes_on: bool) -> Window
+    requires inside { 32 * line + 32 ≤ length pages.now }
+    requires more { goes_on ≡ true → 32 * line + 32 < length pages.now }
+    ensures { result ≡ record { line = line; halves = take 32 (drop (32 * line) pages.now) ++ (if goes_on then slice_index pages.now (32 * line + 32) else 0) ∷ [] } }
+{
+    let first = 32 * line as usize;
+    let behind = if goes_on { pages[first + 32] } else { 0 };
+    let mut halves = [behind; 33];
+    halves[..32].copy_from_slice(&pages[first..first + 32]);
+    Window { line, halves }
 }
