@@ -73,6 +73,7 @@ unfolding slot_after
 slot-idle rules s slot start m e ended own k = rw (no-hook (is_same_place (place_of start) rules.hook) m.left.end e ended, k.vcpu, k.nesting, sym own) refl
 
 slots-idle : (rules : Rules) (s : State) (i : ℕ) (start : StepStart) (m : Made) (e : End) → m.left.end ≡ Some e → IsIdle (site_of s i) m → slots_after rules s i start m ≡ slice_set s.slots i (counted (slot_of s i))
+unfolding slot_after
 slots-idle rules s i start m e ended k = rw (k.wrote, slot-idle rules (site_of s i) (slot_of s i) start m e ended refl k) refl
 
 after-idle : (rules : Rules) (s : State) (i : ℕ) (start : StepStart) (m : Made) (e : End) → m.left.end ≡ Some e → IsIdle (site_of s i) m → EndsOnly i s (after_made rules s i start m)

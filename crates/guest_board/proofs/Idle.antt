@@ -1,6 +1,6 @@
 -- Who may not step any more, and that a run in which nobody may has ended.
-use Rattle.std.proofs.Common.{◌≡◌, ◌≢◌, ℕ, zero, suc, ◌+◌, ◌<◌, ◌≤◌, Bool, true, false, refl, sym, ap, subst, ◌∙◌, arith, Option, Some, None, List, [], ◌∷◌, length}
-use Rattle.std.specs.Prelude.{if◌then◌else◌, ◌&&◌, nat_eq, nat_le, nat_lt, is_none, slice_index_or}
+use Rattle.std.proofs.Common.{◌≡◌, ◌≢◌, ℕ, zero, suc, ◌<◌, ◌≤◌, Bool, true, false, refl, sym, ap, subst, ◌∙◌, arith, Option, Some, None, List, [], ◌∷◌, length}
+use Rattle.std.specs.Prelude.{if◌then◌else◌, ◌&&◌, nat_le, nat_lt, is_none, slice_index_or}
 use Rattle.std.specs.List.{list_all}
 use Rattle.std.proofs.lemmas.Bool.Decides.{nat_tests}
 use Rattle.fc_numbers.specs.declared.machine.End.{End}
@@ -10,8 +10,8 @@ use Rattle.guest_board.specs.declared.slot.Slot.{Slot}
 use Rattle.guest_board.specs.declared.step.StepStart.{StepStart}
 use Rattle.guest_board.specs.Made.{Made}
 use Rattle.guest_board.specs.Step.{made_by}
-use Rattle.guest_board.specs.Board.{Seat, State, after_made, end_after, is_spent, made_of, may, moved, no_slot, released, site_of, slot_of, slots_after, step_of, stepped_by}
-use Rattle.guest_board.specs.Laws.{EndsStay, IdleRunsHaveEnded, IdleVcpusStay, StepsReleaseOthers}
+use Rattle.guest_board.specs.Board.{State, after_made, end_after, is_spent, made_of, may, no_slot, site_of, slot_of, stepped_by}
+use Rattle.guest_board.specs.Laws.{EndsStay, IdleRunsHaveEnded, IdleVcpusStay}
 use Rattle.guest_board.proofs.Slots.{released-made}
 use Rattle.guest_board.proofs.Others.{releases_others}
 use Rattle.guest_board.proofs.Steps.{number_stays}

@@ -3,6 +3,7 @@ pub mod Places
 pub mod Slots
 pub mod LeftOver
 pub mod Steps
+pub mod Carried
 pub mod Stays
 pub mod Parts
 pub mod Started

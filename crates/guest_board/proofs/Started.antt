@@ -1,5 +1,5 @@
 -- What a board keeps before its first step.
-use Rattle.std.proofs.Common.{◌≡◌, ℕ, zero, suc, ◌*◌, ◌/◌, ◌≤◌, Option, List, [], ◌∷◌, length, map, replicate, refl, ◌∙◌, arith}
+use Rattle.std.proofs.Common.{◌≡◌, ℕ, zero, suc, ◌+◌, ◌*◌, ◌/◌, ◌≤◌, Option, List, [], ◌∷◌, length, map, replicate, refl, ◌∙◌, arith}
 use Rattle.std.specs.Prelude.{slice_index, slice_index_or}
 use Rattle.std.specs.List.{range_with_len}
 use Rattle.std.proofs.lemmas.List.FromFn.{length-map-range_with_len}
@@ -16,7 +16,7 @@ slots-left : (steps entry : ℕ) (name : Option (List ℕ)) (from n : ℕ) → l
 unfolding left_total
 slots-left steps entry name from zero = omega arith
 slots-left steps entry name from (suc n) =
-    let rest : left_total steps (map (first_slot entry name) (range_with_len (suc from) n)) ≡ n * steps = slots-left steps entry name (suc from) n in
+    let rest : left_total steps (map (first_slot entry name) (range_with_len (from + 1) n)) ≡ n * steps = slots-left steps entry name (from + 1) n in
     omega (arith, rest)
 
 pub all_left : (steps entry : ℕ) (name : Option (List ℕ)) (n : ℕ) → left_total steps (first_slots entry name n) ≡ n * steps
@@ -26,7 +26,7 @@ all_left steps entry name n = slots-left steps entry name 0 n
 slots-depth : (entry : ℕ) (name : Option (List ℕ)) (from n k m : ℕ) → (slice_index_or (map (first_slot entry name) (range_with_len from n)) k no_slot).depth ≤ m
 slots-depth entry name from zero k m = omega arith
 slots-depth entry name from (suc n) zero m = omega arith
-slots-depth entry name from (suc n) (suc k) m = slots-depth entry name (suc from) n k m
+slots-depth entry name from (suc n) (suc k) m = slots-depth entry name (from + 1) n k m
 
 pub no_depth : (entry : ℕ) (name : Option (List ℕ)) (n k m : ℕ) → (slice_index_or (first_slots entry name n) k no_slot).depth ≤ m
 unfolding first_slots

@@ -15,7 +15,7 @@ use Rattle.guest_board.specs.declared.seen.Verdict.{Verdict}
 use Rattle.guest_board.specs.declared.seen.Verdict.TheVariants.{Idle, Zeroes, Goes}
 use Rattle.guest_board.specs.Made.{Made}
 use Rattle.guest_board.specs.Step.{due_at, made_by, place_of, start_by, step_start}
-use Rattle.guest_board.specs.Board.{State, after_made, deeper, depth_after, is_hook, made_of, may, next_start, site_of, slot_after, slot_of, step_of, stepped_by}
+use Rattle.guest_board.specs.Board.{State, after_made, deeper, depth_after, is_hook, made_of, may, next_start, site_of, slot_after, slot_of, step_of}
 use Rattle.guest_board.specs.Laws.{ClockCountsSteps, FullStepsBegin, NumberOfVcpusStays, StepsCountOne}
 use Rattle.guest_board.specs.Seen.{verdict_of, by_start}
 use Rattle.guest_board.specs.SeenFacts.{IsPlacedIn}

@@ -1,7 +1,7 @@
 -- What every step of the machine leaves as it is, whatever it begins with.
 -- The rules: a step that ends the run by a stop or a shutdown changes nothing but the end, the schedule, the count of its
 -- vCPU and the clock; a step of one vCPU leaves the others, but that it breaks their reservations of what it wrote.
-use Rattle.std.specs.Prelude.{◌≡◌, ◌≢◌, ℕ, ◌+◌, ◌<◌, true, false, Option, Some, None, length, slice_set}
+use Rattle.std.specs.Prelude.{◌≡◌, ◌≢◌, ℕ, ◌+◌, ◌<◌, true, false, Some, None, length, slice_set}
 use Rattle.fc_numbers.specs.declared.machine.End.{End}
 use Rattle.fc_numbers.specs.declared.machine.End.TheVariants.{Spent}
 use Rattle.guest_ram.specs.Ram.{IsLaid}
@@ -10,7 +10,7 @@ use Rattle.guest_board.specs.declared.rules.Rules.{Rules}
 use Rattle.guest_board.specs.declared.slot.Slot.{Slot}
 use Rattle.guest_board.specs.declared.step.StepStart.{StepStart}
 use Rattle.guest_board.specs.Step.{made_by}
-use Rattle.guest_board.specs.Board.{Seat, State, released, site_of, slot_of, vcpu_of, made_of, may, next_start, stepped_by, step_of, full_after}
+use Rattle.guest_board.specs.Board.{Seat, State, released, site_of, slot_of, made_of, may, next_start, stepped_by, step_of, full_after}
 
 -- one step more
 abbrev pub counted : Slot → Slot

@@ -1,6 +1,6 @@
 -- A step by what a lane holds of a view: the step, a need of a line, or a trap on a zero halfword.
 -- The rule: a fetch in text reads its halfwords from the window of its line, of several the first.
-use Rattle.std.specs.Prelude.{ℕ, ◌+◌, ◌/◌, ◌%◌, ◌==◌, ◌&&◌, Bool, false, not, nat_eq, nat_lt, nat_le, if◌then◌else◌, Option, Some, None, List, slice_index}
+use Rattle.std.specs.Prelude.{ℕ, ◌+◌, ◌/◌, ◌%◌, ◌==◌, ◌&&◌, Bool, false, not, nat_eq, if◌then◌else◌, Option, Some, None, List, slice_index}
 use Rattle.std.specs.List.{find}
 use Rattle.fc_numbers.specs.declared.window.Window.{Window}
 use Rattle.fc_numbers.specs.declared.window.TheConstants.{LINE}

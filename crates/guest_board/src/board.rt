@@ -9,7 +9,8 @@ ghost use Rattle.rv_step.specs.Kept.{KeepsText};
 ghost use Rattle.fc_numbers.specs.Numbers.{get_reg};
 ghost use Rattle.switch_hook.specs.Hook.{app_name_of};
 ghost use Rattle.guest_board.specs.Step.{made_by, place_of};
-ghost use Rattle.guest_board.specs.Board.{depth_of, full_after, full_answer, is_same_place, made_of, may, moved, name_of, next_of, next_start, said, slot_after, step_of, stepped_by, vcpu_of};
+ghost use Rattle.guest_board.specs.Housed.{left_total};
+ghost use Rattle.guest_board.specs.Board.{broken_by, depth_of, full_after, full_answer, is_same_place, made_of, may, moved, name_of, next_of, next_start, no_slot, said, slot_after, step_of, stepped_by, vcpu_of};
 ghost use Rattle.guest_input.specs.Accepted.{IsImage, IsSetupFor};
 ghost use Rattle.guest_board.specs.First.{first_seat};
 ghost use Rattle.guest_board.specs.Seen.{verdict_of, after_verdict, seen_by, trapped_at};
@@ -172,10 +173,43 @@ fn carry_slot<S: SecondStage>(
     left
 }
 
+/// The same in the slots of all, where it breaks the reservations that the others have of what it wrote.
+fn carry_at<S: SecondStage>(
+    rules: &Rules,
+    start: StepStart,
+    slots: &mut [Slot],
+    at: usize,
+    ram: &mut GuestRam,
+    feed: &mut Feed,
+    stage: &S,
+    put: &mut Option<u8>,
+    clock: u64,
+) -> StepOutcome
+    requires inside { at < length slots.old }
+    requires stage { IsFor (S.text stage.now) (S.ram stage.now) ram.old }
+    requires stamps { CanStore ram.old }
+    requires steps { (slice_index_or slots.old at no_slot).made < rules.now.steps }
+    requires depths { (k : ℕ) → (slice_index_or slots.old k no_slot).depth ≤ clock }
+    requires low { clock < 2 ^ 32 - 1 }
+    ensures slots { let old = slice_index_or slots.old at no_slot in let s : Site = record { vcpu = old.vcpu; ram = ram.old; devices = feed.old } in slots.new ≡ slice_set (broken_by (made_by start clock s).left.wrote slots.old) at (slot_after rules.now s old start (made_by start clock s)) }
+    ensures ram { let s : Site = record { vcpu = (slice_index_or slots.old at no_slot).vcpu; ram = ram.old; devices = feed.old } in ram.new ≡ (made_by start clock s).ram }
+    ensures devices { let s : Site = record { vcpu = (slice_index_or slots.old at no_slot).vcpu; ram = ram.old; devices = feed.old } in feed.new ≡ (made_by start clock s).devices }
+    ensures put { let s : Site = record { vcpu = (slice_index_or slots.old at no_slot).vcpu; ram = ram.old; devices = feed.old } in put.new ≡ (made_by start clock s).put }
+    ensures left { let s : Site = record { vcpu = (slice_index_or slots.old at no_slot).vcpu; ram = ram.old; devices = feed.old } in result ≡ (made_by start clock s).left }
+    ensures keeps { KeepsText ram.old ram.new }
+    ensures len { length slots.new ≡ length slots.old }
+    ensures one_less { left_total rules.now.steps slots.new + 1 ≡ left_total rules.now.steps slots.old }
+    ensures depths { (k : ℕ) → (slice_index_or slots.new k no_slot).depth ≤ clock + 1 }
+{
+    let left = carry_slot(rules, start, &mut slots[at], ram, feed, stage, put, clock);
+    break_others(slots, at, left.wrote);
+    left
+}
+
 impl Board {
     /// The board before the first step of a run of this image by this setup. Console and schedule take room for every
     /// step here, so that no step takes memory.
-    #[tactic(auto, unfolding(crate::specs::First::first_state), using(crate::proofs::Started::all_left, crate::proofs::Started::no_depth, crate::proofs::Started::no_stamp, crate::proofs::Started::few_vcpus))]
+    #[tactic(auto, unfolding(crate::specs::First::first_state), using(crate::proofs::Started::all_left, crate::proofs::Started::no_depth, crate::proofs::Started::no_stamp, crate::proofs::Started::few_slots))]
     pub fn open(alloc: Global, image: &Image, setup: &Setup) -> Result<Board, NoMemory>
         requires image { IsImage image.now }
         requires setup { IsSetupFor image.now setup.now }
@@ -308,17 +342,17 @@ impl Board {
         let clock = self.clock();
         let at = i.0 as usize;
         let mut put = None;
-        let left = carry_slot(
+        let left = carry_at(
             &self.rules,
             start,
-            &mut self.slots[at],
+            &mut self.slots,
+            at,
             &mut self.ram,
             &mut self.feed,
             stage,
             &mut put,
             clock,
         );
-        break_others(&mut self.slots, at, left.wrote);
         say(&mut self.console, put);
         push_vcpu(&mut self.schedule, i);
         self.end = end_by(&self.rules, &self.slots, left.end);

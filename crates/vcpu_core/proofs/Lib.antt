@@ -5,4 +5,17 @@ pub mod Run
 pub mod Turning
 pub mod Turned
 pub mod Mended
+pub mod Stays
+pub mod Ready
+pub mod Kept
+pub mod Start
 pub mod Staged
+pub mod OneVcpu
+pub mod Ended
+pub mod Events
+pub mod Waiting
+pub mod LeftOver
+pub mod Bound
+pub mod Undisturbed
+pub mod Alone
+pub mod SoFar

@@ -43,6 +43,10 @@ taken-newest c v log cleared ws w all new =
       | false ↦ taken-append c v log cleared (drop 1 ws) w (taken-drop c v log cleared ws all) new
     ]
 
+window-line : (p : PagedView) (n : ℕ) → n ≡ (window_of p n).line
+unfolding window_of
+window-line p n = refl
+
 -- the windows after a fill, from the view with this log
 pub filled-truthful : (c : Config) (p : PagedView) (log : List LogEntry) (n : ℕ) (w : Windows) → p ≡ paged_at c w.view log → AreTruthful c log w → AreTruthful c log (filled p n w)
 filled-truthful c p log n w is k = record {
@@ -54,10 +58,6 @@ filled-truthful c p log n w is k = record {
   });
   cleared = k.cleared;
 }
-  where
-    window-line : (p : PagedView) (n : ℕ) → n ≡ (window_of p n).line
-    unfolding window_of
-    window-line p n = refl
 
 pub fill_keeps : (p : PagedView) (l l' : Lane) → IsWanting l.phase → l' ≡ fill_row p l l.phase → FillKeeps p l l'
 fill_keeps p l l' wants is c h logs ok view truthful = subst (λ (x : Lane). IsTruthful c h logs x) (sym is) (by-phase l.phase wants) where

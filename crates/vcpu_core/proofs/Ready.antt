@@ -2,7 +2,7 @@
 use Rattle.std.proofs.Common.{◌≡◌, ◌≢◌, ℕ, zero, suc, ◌+◌, ◌*◌, ◌/◌, ◌<◌, ◌≤◌, true, false, Bool, List, [], ◌∷◌, length, refl, sym, ap, subst, ◌∙◌, arith, Option, Some, None, length-set}
 use Rattle.std.specs.Prelude.{◌==◌, slice_index_or, slice_set, if◌then◌else◌}
 use Rattle.std.proofs.lemmas.Bool.Decides.{nat_tests}
-use Rattle.std.proofs.lemmas.List.{get_or-set, get_or-set_other}
+use Rattle.std.proofs.lemmas.List.{get_or-set_other, get_or-set_same}
 use Rattle.std.proofs.lemmas.List.Quantifiers.{position-Some}
 use mathlib.Core.Logic.{dite}
 use native.Mathlib.Decide.{ℕ_discrete}
@@ -44,7 +44,7 @@ set-each {X} d P xs i x all new k within =
     let here : k < length xs = simp length-set at within in
     dite (ℕ_discrete k i)
     (λ same. let low : i < length xs = omega (arith, here, same) in
-    subst (λ j. P j (slice_index_or (slice_set xs i x) j (d j))) (sym same) (subst (λ y. P i y) (sym (get_or-set xs i x (d i) low)) new))
+    subst (λ j. P j (slice_index_or (slice_set xs i x) j (d j))) (sym same) (subst (λ y. P i y) (sym (get_or-set_same xs i x (d i) low)) new))
     (λ other. subst (λ y. P k y) (sym (get_or-set_other xs i k x (d k) other)) (all k here other))
 
 pub set-lane : (P : ℕ → Lane → Type 0) (lanes : List Lane) (i : ℕ) (l : Lane)

@@ -1,6 +1,6 @@
 -- What a turn keeps: its steps are the full kernel's, each fetch is allowed, and the lane is truthful after it.
 use Rattle.std.proofs.Common.{◌≡◌, ◌≢◌, ℕ, zero, suc, ◌+◌, ◌*◌, ◌/◌, ◌<◌, ◌≤◌, true, false, Bool, List, [], ◌∷◌, ◌++◌, length, refl, sym, ap, subst, ◌∙◌, arith, Option, Some, None, ◌⊎◌, inl, inr, append_assoc, append-nil, length-append, replicate}
-use Rattle.std.specs.Prelude.{◌==◌, ◌||◌, slice_index_or, if◌then◌else◌}
+use Rattle.std.specs.Prelude.{◌==◌, ◌||◌, slice_index_or, slice_set, if◌then◌else◌}
 use Rattle.std.specs.List.{list_any}
 use Rattle.std.proofs.lemmas.Bool.Decides.{nat_tests}
 use Rattle.std.proofs.lemmas.Grind.{common_steps}
@@ -16,7 +16,7 @@ use Rattle.chain_log.specs.declared.entry.Trapped.{Trapped as Trap}
 use Rattle.guest_ram.specs.Ram.{is_text}
 use Rattle.view_file.specs.declared.views.Views.{Views}
 use Rattle.view_file.specs.Named.{view_named}
-use Rattle.view_store.specs.Paged.{is_present}
+use Rattle.view_store.specs.Paged.{PagedView, is_present}
 use Rattle.guest_board.specs.declared.step.StepStart.{StepStart}
 use Rattle.guest_board.specs.declared.step.StepStart.TheVariants.{Fetches}
 use Rattle.guest_board.specs.declared.seen.Windows.{Windows}
@@ -43,6 +43,7 @@ use Rattle.vcpu_core.specs.Lanes.{after_turn, blank_windows, in_phase, seated, w
 use Rattle.vcpu_core.specs.Truthful.{AreTruthful, IsKeptTrap, IsOfView, IsTrapOf, IsTruePhase, IsTruthful}
 use Rattle.vcpu_core.specs.Turns.{AfterTurns, board_after, lane_after, turns_by, turns_from, turns_of, verdict_for, went_then, windows_for}
 use Rattle.vcpu_core.specs.Rows.{AreAllowedSteps, TurnsKeep}
+use Rattle.vcpu_core.specs.World.{World, gone, went_in}
 use Rattle.vcpu_core.proofs.Run.{IsTextedRam, full-clock, full-texted}
 use Rattle.vcpu_core.proofs.Truth.{IsOriginal, got-same, group-half, half_no, read-original}
 use Rattle.vcpu_core.proofs.Verdicts.{IsNeed, IsPlain, IsRead, IsZero, first_in, second_in, start-busy, start-goes, start-needs, start-zeroes, verdict-may, verdict-stuck}
@@ -155,7 +156,7 @@ justified-more : (c : Config) (logs : List (List LogEntry)) (h : List ℕ) (i : 
 justified-more c logs h i just v = all_justified-more c h i (log_in logs v) (just v)
 
 -- the board of this schedule, which is lawful and fetches from step `from` on what the logs allow; the lane is vCPU i's
-record IsRunTo (c : Config) (logs : List (List LogEntry)) (from i : ℕ) (h : List ℕ) (b : Seat) (l : Lane) : Type 0 where
+pub record IsRunTo (c : Config) (logs : List (List LogEntry)) (from i : ℕ) (h : List ℕ) (b : Seat) (l : Lane) : Type 0 where
   pub board : b ≡ board_of c h
   pub lawful : IsLawful c h
   pub allowed : IsAllowedFrom c logs h from
@@ -163,7 +164,7 @@ record IsRunTo (c : Config) (logs : List (List LogEntry)) (from i : ℕ) (h : Li
   pub truthful : IsTruthful c h logs l
 
 -- it was reached by n more steps
-record HasRun (c : Config) (logs : List (List LogEntry)) (from i made : ℕ) (h : List ℕ) (after : AfterTurns) : Type 0 where
+pub record HasRun (c : Config) (logs : List (List LogEntry)) (from i made : ℕ) (h : List ℕ) (after : AfterTurns) : Type 0 where
   pub more : ℕ
   pub steps : after.answer.steps ≡ made + more
   pub to : IsRunTo c logs from i (h ++ replicate more i) after.board after.lane
@@ -272,16 +273,34 @@ turns_keep views limit b b' l l' answer exact c h logs ok same_views at lawful j
     subst (λ k. AreAllowedSteps c h logs l.vcpu k b' l') n (record { board = told.to.board; lawful = told.to.lawful; allowed = told.to.allowed; vcpu = told.to.vcpu; truthful = told.to.truthful })
 
 -- a turn with limit 1 is one event
+abbrev ended : Verdict → Seat → Lane → AfterTurns
+ended v x y = turns_by v 0 x y (record { board = x; lane = y; answer = record { steps = 1; then = Limit } })
+
+ended-by : (v : Verdict) (x : Seat) (y : Lane) → ((ended v x y).board ≡ x) × ((ended v x y).lane ≡ y) × (went_then (ended v x y).answer.then ≡ went_by v)
+ended-by Idle x y = (refl, refl, refl)
+ended-by (Needs n) x y = (refl, refl, refl)
+ended-by (Zeroes p) x y = (refl, refl, refl)
+ended-by (Goes start) x y = (refl, refl, refl)
+
 pub one-turn : (views : Views) (b : Seat) (l : Lane)
     → ((turns_of views 1 b l).board ≡ board_after views b l) × ((turns_of views 1 b l).lane ≡ lane_after views b l) × (went_then (turns_of views 1 b l).answer.then ≡ went_by (verdict_for views b l))
 unfolding turns_from
-one-turn views b l = by-verdict (verdict_for views b l) (board_after views b l) (lane_after views b l)
-  where
-    abbrev one : Verdict → Seat → Lane → AfterTurns
-    one v x y = turns_by v 0 x y (record { board = x; lane = y; answer = record { steps = 1; then = Limit } })
+one-turn views b l = ended-by (verdict_for views b l) (board_after views b l) (lane_after views b l)
 
-    by-verdict : (v : Verdict) (x : Seat) (y : Lane) → ((one v x y).board ≡ x) × ((one v x y).lane ≡ y) × (went_then (one v x y).answer.then ≡ went_by v)
-    by-verdict Idle x y = (refl, refl, refl)
-    by-verdict (Needs n) x y = (refl, refl, refl)
-    by-verdict (Zeroes p) x y = (refl, refl, refl)
-    by-verdict (Goes start) x y = (refl, refl, refl)
+-- the world after it
+pub event-running : (views : Views) (groups : Groups) (paged_views : List PagedView) (lanes : List Lane) (b b' : Seat) (l l' : Lane) (answer : Turned)
+    → turns_of views 1 b l ≡ record { board = b'; lane = l'; answer = answer }
+    → (let new : World = record { profile = views; groups = groups; board = b'; paged_views = paged_views; lanes = slice_set lanes l.vcpu l' } in new)
+    ≡ gone (record { profile = views; groups = groups; board = b; paged_views = paged_views; lanes = lanes }) l.vcpu l Running
+unfolding gone
+event-running views groups paged_views lanes b b' l l' answer exact =
+    let board : b' ≡ board_after views b l = sym (ap (λ (a : AfterTurns). a.board) exact) ∙ (one-turn views b l).0 in
+    let lane : l' ≡ lane_after views b l = sym (ap (λ (a : AfterTurns). a.lane) exact) ∙ (one-turn views b l).1 in
+    λ x. record { profile = views; groups = groups; board = board x; paged_views = paged_views; lanes = slice_set lanes l.vcpu (lane x) }
+
+pub event-went : (views : Views) (groups : Groups) (paged_views : List PagedView) (lanes : List Lane) (b b' : Seat) (l l' : Lane) (answer : Turned)
+    → turns_of views 1 b l ≡ record { board = b'; lane = l'; answer = answer }
+    → went_then answer.then ≡ went_in (record { profile = views; groups = groups; board = b; paged_views = paged_views; lanes = lanes }) l.vcpu l Running
+unfolding went_in
+event-went views groups paged_views lanes b b' l l' answer exact =
+    sym (ap (λ (a : AfterTurns). went_then a.answer.then) exact) ∙ (one-turn views b l).2

@@ -6,17 +6,17 @@ use Rattle.guest_board.specs.declared.seen.Verdict.TheVariants.{Idle, Needs, Zer
 use Rattle.guest_board.specs.declared.seen.Windows.{Windows}
 use Rattle.guest_board.specs.declared.seen.Seen.{Seen}
 use Rattle.guest_board.specs.declared.seen.Seen.TheVariants as seen
-use Rattle.guest_board.specs.Board.{Seat, may}
+use Rattle.guest_board.specs.Board.{Seat, may, next_start}
 use Rattle.guest_board.specs.Seen.{after_verdict, by_start, seen_by, verdict_of}
 use Rattle.run_evidence.proofs.Steps.{stepped-slots}
 use Rattle.vcpu_core.specs.declared.lane.Lane.{Lane}
 use Rattle.vcpu_core.specs.declared.lane.Phase.{Phase}
 use Rattle.vcpu_core.specs.declared.lane.Phase.TheVariants.{Running}
 use Rattle.vcpu_core.specs.declared.lane.Then.{Then}
-use Rattle.vcpu_core.specs.declared.lane.Then.TheVariants.{Limit}
+use Rattle.vcpu_core.specs.declared.lane.Then.TheVariants.{Limit, Over}
 use Rattle.vcpu_core.specs.Lanes.{after_turn}
 use Rattle.vcpu_core.specs.Turns.{AfterTurns, board_after, ends_by, lane_after, turns_by, turns_from, verdict_for, windows_for}
-use Rattle.vcpu_core.proofs.Verdicts.{start-busy, verdict-may}
+use Rattle.vcpu_core.proofs.Verdicts.{start-busy, verdict-may, verdict-stuck}
 
 -- a turn that goes on after an event
 goes-on : (v : Verdict) (made : ℕ) (b : Seat) (l : Lane) (later : AfterTurns) → ends_by v ≡ None → turns_by v made b l later ≡ later
@@ -70,6 +70,42 @@ over-by b i view (Needs n) e = absurd (cc)
 over-by b i view (Zeroes p) e = absurd (cc)
 over-by b i view (Goes start) e = absurd (cc)
 
-pub not_over : (b : Seat) (i : ℕ) (w : Windows) (answer : Seen) → may b.rules b.state i ≡ true → answer ≡ seen_by b.state i w.view (verdict_of b.rules b.state i w) → answer ≡ seen.Over → ⊥
-not_over b i w answer m is over =
-    start-busy b.state.ram.text w _ (sym (verdict-may b.rules b.state i w m) ∙ over-by b i w.view (verdict_of b.rules b.state i w) (sym is ∙ over))
+pub not_over : (b : Seat) (i : ℕ) (w : Windows) → may b.rules b.state i ≡ true → seen.Over ≡ seen_by b.state i w.view (verdict_of b.rules b.state i w) → ⊥
+not_over b i w m is =
+    start-busy b.state.ram.text w (next_start b.state i) (sym (verdict-may b.rules b.state i w m) ∙ over-by b i w.view (verdict_of b.rules b.state i w) (sym is))
+
+-- an event of a vCPU that may not step
+pub stuck-board : (views : Views) (b : Seat) (l : Lane) → may b.rules b.state l.vcpu ≡ false → b ≡ board_after views b l
+unfolding after_verdict
+stuck-board views b l m = ap (λ (v : Verdict). after_verdict b l.vcpu v) (sym (verdict-stuck b.rules b.state l.vcpu (windows_for views b l) m))
+
+pub stuck-lane : (views : Views) (b : Seat) (l : Lane) → may b.rules b.state l.vcpu ≡ false → l ≡ lane_after views b l
+stuck-lane views b l m = ap (λ (v : Verdict). after_turn b.state l.vcpu l (windows_for views b l) v) (sym (verdict-stuck b.rules b.state l.vcpu (windows_for views b l) m))
+
+pub stuck-ends : (views : Views) (b : Seat) (l : Lane) → may b.rules b.state l.vcpu ≡ false → Some Over ≡ ends_by (verdict_for views b l)
+stuck-ends views b l m = ap (λ (v : Verdict). ends_by v) (sym (verdict-stuck b.rules b.state l.vcpu (windows_for views b l) m))
+
+-- a turn in its loop
+module _ (views : Views) (limit steps : ℕ) (b0 b b' : Seat) (l0 l l' : Lane) (exact : turns_from views steps (limit - steps) b l ≡ turns_from views 0 limit b0 l0)
+    (board : b' ≡ board_after views b l) (lane : l' ≡ lane_after views b l) where
+  left : steps < limit → limit - steps ≡ suc (limit - (steps + 1))
+  left more = omega (arith, more)
+
+  pub loop-ends : (then : Then) → steps < limit → Some then ≡ ends_by (verdict_for views b l) → turns_from views 0 limit b0 l0 ≡ record { board = b'; lane = l'; answer = record { steps = steps; then = then } }
+  loop-ends then more ends =
+      let e : limit - steps ≡ suc (limit - (steps + 1)) = left more in
+      sym exact ∙ ap (λ k. turns_from views steps k b l) e ∙ last-turn views steps (limit - (steps + 1)) b l then (sym ends)
+      ∙ (λ x. record { board = sym board x; lane = sym lane x; answer = record { steps = steps; then = then } })
+
+  pub loop-goes : steps < limit → None ≡ ends_by (verdict_for views b l) → turns_from views (steps + 1) (limit - (steps + 1)) b' l' ≡ turns_from views 0 limit b0 l0
+  loop-goes more ends =
+      let e : limit - steps ≡ suc (limit - (steps + 1)) = left more in
+      (λ x. turns_from views (steps + 1) (limit - (steps + 1)) (board x) (lane x)) ∙ sym (next-turn views steps (limit - (steps + 1)) b l (sym ends))
+      ∙ ap (λ k. turns_from views steps k b l) (sym e) ∙ exact
+
+-- after its loop
+pub loop-ended : (views : Views) (limit steps : ℕ) (b0 b : Seat) (l0 l : Lane) → turns_from views steps (limit - steps) b l ≡ turns_from views 0 limit b0 l0 → steps ≡ limit
+    → turns_from views 0 limit b0 l0 ≡ record { board = b; lane = l; answer = record { steps = limit; then = Limit } }
+loop-ended views limit steps b0 b l0 l exact same =
+    let none : limit - steps ≡ 0 = omega (arith, same) in
+    sym exact ∙ ap (λ k. turns_from views steps k b l) none ∙ ap (λ n. turns_from views n 0 b l) same ∙ no-turn views limit b l

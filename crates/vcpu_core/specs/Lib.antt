@@ -10,3 +10,5 @@ pub mod Sound
 pub mod Missed
 pub mod Whole
 pub mod Stages
+pub mod Bound
+pub mod Undisturbed

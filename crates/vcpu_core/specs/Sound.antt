@@ -1,13 +1,11 @@
 -- What is true of the view machine after any list of events.
 use Rattle.std.specs.Prelude.{◌≡◌, ℕ, ◌<◌, List, length}
-use Rattle.std.proofs.Common.{zero, suc}
 use Rattle.run_evidence.specs.Config.{Config, full, IsLawful}
 use Rattle.run_evidence.specs.Evidence.{IsAllowed}
 use Rattle.run_evidence.specs.Growing.{views_count}
 use Rattle.run_evidence.specs.Sound.{IsSoundView}
-use Rattle.vcpu_core.specs.declared.lane.Went.TheVariants.{Erased}
 use Rattle.vcpu_core.specs.Truthful.{IsTruthful}
-use Rattle.vcpu_core.specs.World.{World, paged_in, lane_of, logs_of, go_of, went_of}
+use Rattle.vcpu_core.specs.World.{World, paged_in, lane_of, logs_of}
 
 -- the schedule is the steps that were made, and it is lawful; the board is the full run of it; the views are
 -- numbered in order, and their logs are evidence; each fetch was allowed
@@ -28,8 +26,3 @@ pub record HasTruthfulLane (c : Config) (w : World) (steps : List ℕ) (i : ℕ)
 pub record HasTruthfulLanes (c : Config) (w : World) (steps : List ℕ) : Type 0 where
   pub count : length w.lanes ≡ c.setup.vcpus
   pub each : (i : ℕ) → i < length w.lanes → HasTruthfulLane c w steps i
-
--- vCPU i makes n events, none of which is a step
-abbrev pub AllErased : World → ℕ → ℕ → Type 0
-AllErased w i zero = Unit {0}
-AllErased w i (suc n) = (went_of w i ≡ Erased) × AllErased (go_of w i) i n

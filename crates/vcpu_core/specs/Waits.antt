@@ -1,7 +1,7 @@
 -- How many events of a vCPU may still come before its next step: at most nine, and one less after each.
--- This is the measure by which a run of one vCPU ends.
-use Rattle.std.specs.Prelude.{ℕ, ◌+◌, ◌-◌, ◌*◌, ◌==◌, Bool, if◌then◌else◌, Option, Some, None, List, [], ◌∷◌, map}
-use Rattle.std.specs.List.{list_any}
+-- These are the measures by which a run ends: of one vCPU, and of all.
+use Rattle.std.specs.Prelude.{ℕ, ◌+◌, ◌-◌, ◌*◌, ◌==◌, Bool, if◌then◌else◌, Option, Some, None, List, [], ◌∷◌, length, map}
+use Rattle.std.specs.List.{list_any, range_with_len, sum_by}
 use Rattle.fc_numbers.specs.declared.places.Span.{Span}
 use Rattle.fc_numbers.specs.declared.window.Window.{Window}
 use Rattle.function_table.specs.Groups.{Groups, group_at, range_of}
@@ -43,3 +43,15 @@ waits_of w i l = phase_waits w.groups l (windows_of w i l) (next_of w.board.stat
 -- what is left of vCPU i: ten events for each step, and those before the next step
 unfoldable pub left_of : World → ℕ → ℕ
 left_of w i = 10 * (w.board.rules.steps - made_of w.board.state i) + waits_of w i (lane_of w i)
+
+-- the steps that are left to all vCPUs
+abbrev pub steps_left : World → ℕ
+steps_left w = sum_by (λ i. w.board.rules.steps - made_of w.board.state i) (range_with_len 0 (length w.lanes))
+
+-- the events that may come before the next step of each
+abbrev pub waits_left : World → ℕ
+waits_left w = sum_by (λ i. waits_of w i (lane_of w i)) (range_with_len 0 (length w.lanes))
+
+-- what is left of all vCPUs: ten events of each for each step that is left, and those before the next steps
+unfoldable pub all_left : World → ℕ
+all_left w = 10 * length w.lanes * steps_left w + waits_left w

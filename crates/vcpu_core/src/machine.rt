@@ -14,7 +14,7 @@ ghost use Rattle.vcpu_core.specs.First.{first_world, first_paged_views, first_la
 ghost use Rattle.vcpu_core.specs.Placed.{IsPlaced};
 ghost use Rattle.vcpu_core.specs.Stages.{AreStagesFor};
 ghost use Rattle.vcpu_core.specs.Turns.{went_then};
-ghost use Rattle.vcpu_core.specs.Waits.{left_of};
+ghost use Rattle.vcpu_core.specs.Waits.{all_left, left_of};
 ghost use Rattle.vcpu_core.specs.World.{World, go_of, went_of, go_all, gone, went_in, IsReady, IsLaneReady, paged_in, blank_paged, lane_of, view_of};
 
 use crate::lane::{Lane, Phase, Then, Went};
@@ -95,7 +95,7 @@ fn event(
         result ≡ went_in old lane.old.vcpu lane.old lane.old.phase) }
     ensures stages { AreStagesFor board.new.state.ram (length profile.now.apps + 1) stages.now }
 {
-    match &lane.phase {
+    match lane.phase {
         Phase::Running => went_by(turn(board, profile, stages, lane, 1).then),
         Phase::Wants(_) => {
             let view = lane.windows.view.0 as usize;
@@ -177,8 +177,8 @@ impl<'a> Core<'a> {
 
     /// The board and the views, as they are.
     pub fn into_parts(self) -> (Board, Vec<View>)
-        ensures board { result.0 ≡ self.board }
-        ensures views { result.1.items ≡ self.paged_views }
+        ensures board { result.0 ≡ self.entry.board }
+        ensures views { result.1.items ≡ self.entry.paged_views }
     {
         let Core { board, views, .. } = self;
         (board, views)
@@ -186,12 +186,13 @@ impl<'a> Core<'a> {
 
     /// One event of vCPU i, by the phase of its lane: a step, a need, a trap, a fill, a lookup or a mend; `Over` exactly
     /// where the vCPU may not step, and then nothing changes. Of ten events of a vCPU, between which no other vCPU steps,
-    /// at least one is a step.
-    #[tactic(auto, using(crate::proofs::Waiting::go_left))]
+    /// at least one is a step. Each event but `Over` leaves less of the vCPU's run, and less of the run of all.
+    #[tactic(auto, using(crate::proofs::Waiting::go_left, crate::proofs::LeftOver::go_falls))]
     pub fn go(&mut self, i: VcpuNo) -> Went
         ensures after { self.new ≡ go_of self.old i }
         ensures answer { result ≡ went_of self.old i }
         ensures nearer { result ≢ Went.Over → left_of self.new i < left_of self.old i }
+        ensures falls { result ≢ Went.Over → all_left self.new < all_left self.old }
     {
         self.make_event(i)
     }

@@ -40,7 +40,7 @@ fn seat(view: ViewNo, windows: &mut Windows)
 {
     if windows.view.0 != view.0 {
         windows.view = view;
-        windows.held.clear();
+        windows.held = ArrayVec::new();
         windows.cleared = None;
     }
 }
@@ -54,6 +54,7 @@ fn take_step(board: &mut Board, views: &Views, stages: &[GTable], lane: &mut Lan
     ensures board { board.new ≡ board_after views.now board.old lane.old }
     ensures lane { lane.new ≡ lane_after views.now board.old lane.old }
     ensures answer { result ≡ ends_by (verdict_for views.now board.old lane.old) }
+    ensures stages { AreStagesFor board.new.state.ram (length views.now.apps + 1) stages.now }
 {
     if !board.may(lane.vcpu) {
         return Some(Then::Over);
@@ -92,8 +93,9 @@ pub fn turn(
     ensures kept { TurnsKeep views.now board.old lane.old board.new lane.new result.steps }
 {
     for steps in 0..limit {
-        if let Some(then) = take_step(board, views, stages, lane) {
-            return Turned { steps, then };
+        match take_step(board, views, stages, lane) {
+            None => {}
+            Some(then) => return Turned { steps, then },
         }
     }
     Turned {
