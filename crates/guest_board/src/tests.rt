@@ -1,6 +1,6 @@
 //! Small kernels, stepped by hand.
 
-ghost use Rattle.std.specs.Prelude.{◌≡◌, ◌≤◌, ◌+◌, [], ◌∷◌, IfOk, length};
+ghost use Rattle.std.specs.Prelude.{◌≡◌, ◌<◌, ◌≤◌, ◌+◌, [], ◌∷◌, IfOk, length};
 ghost use Rattle.guest_input.specs.Accepted.{IsImage, IsSetupFor};
 ghost use Rattle.fc_numbers.specs.Spans.{IsTextBelow};
 ghost use Rattle.guest_input.specs.Text.{spans_of};

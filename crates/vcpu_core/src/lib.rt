@@ -16,11 +16,15 @@
 //! above, the program.
 #![tactic(auto)]
 
+#[cfg(test)]
+mod kernels;
 pub mod lane;
 pub mod laws;
 pub mod machine;
 mod open;
 pub mod rows;
+#[cfg(test)]
+mod scripts;
 #[cfg(test)]
 mod remapped;
 #[cfg(test)]

@@ -5,8 +5,11 @@ ghost use Rattle.fc_numbers.specs.Spans.{IsTextBelow};
 ghost use Rattle.guest_input.specs.Accepted.{IsImage, IsSetupFor};
 ghost use Rattle.guest_input.specs.Text.{spans_of};
 
+use crate::kernels::{FIVE_LINES, FIVE_LINES_VIEWS, HANDLER, HANDLER_VIEWS, LINES, LINES_VIEWS, ONE, RAISED, SHORT, SPLIT, SPLIT_VIEWS, TWO, UNMAPPED, UNMAPPED_VIEWS};
 use crate::lane::Went;
 use crate::machine::Core;
+use crate::scripts::{Script, are_digits, play};
+use chain_log::entry::LogEntry;
 use fc_numbers::machine::{End, GKind};
 use fc_numbers::memory::NoMemory;
 use fc_numbers::name::Name;
@@ -114,7 +117,7 @@ fn missing_code_is_restored_and_logged_once(rt: HostRuntime) -> Result<(), Fail>
     let alloc = rt.alloc();
     let image = kernel(alloc)?;
     let table = Table::of(alloc, &image)?;
-    for (name, view, entries, erased) in [(b"sh", 1u8, 1, 19), (b"??", 0, 0, 14)] {
+    for (name, view, entries, erased) in [(b"sh", 1u8, 1, 11), (b"??", 0, 0, 4)] {
         let setup = setup(alloc, Name::of(name), &image);
         let Ok(profile) = read_views(alloc, VIEWS.as_bytes(), &image, &table) else {
             assert!(rt; false, "views");
@@ -148,6 +151,90 @@ fn missing_code_is_restored_and_logged_once(rt: HostRuntime) -> Result<(), Fail>
             let caller = &entry.chain[0];
             assert!(rt; caller.0 == 0x8000_0004);
         }
+    }
+    Ok(())
+}
+
+/// Whether this is the only entry of the log: of this clock, vCPU, group and place.
+fn is_only(log: &[LogEntry], at: u32, vcpu: u8, group: u16, pc: u64) -> bool {
+    match log {
+        [entry] => entry.at == at && entry.vcpu.0 == vcpu && entry.group.0 == group && entry.pc.0 == pc,
+        _ => false,
+    }
+}
+
+#[test]
+fn windows_are_kept_until_a_fifth_replaces_the_oldest(rt: HostRuntime) -> Result<(), Fail> {
+    for (image, views, answers) in [
+        (LINES, LINES_VIEWS, "eeseeseeseesssssss"),
+        (FIVE_LINES, FIVE_LINES_VIEWS, "eeseeseeseeseesees"),
+    ] {
+        let script = Script {
+            image,
+            setup: ONE,
+            views,
+            events: "000000000000000000",
+        };
+        let Some(played) = play(rt.alloc(), script)? else {
+            assert!(rt; false, "files");
+            return Ok(());
+        };
+        assert!(rt; played.answers.as_slice() == answers.as_bytes());
+        assert!(rt; played.board.clock() == 100);
+        assert!(rt; played.board.end() == Some(End::Spent));
+    }
+    Ok(())
+}
+
+#[test]
+fn two_vcpus_recover_one_group_once(rt: HostRuntime) -> Result<(), Fail> {
+    // In the first script vCPU 1 has its window before vCPU 0 mends, and traps on the stale zero. In the second both trap,
+    // and vCPU 1 mends first.
+    for (events, schedule, at, vcpu) in [
+        ("000001110111111", "01101110101", 1, 0),
+        ("000001111110", "0101010101010", 2, 1),
+    ] {
+        let script = Script {
+            image: SPLIT,
+            setup: TWO,
+            views: SPLIT_VIEWS,
+            events,
+        };
+        let Some(played) = play(rt.alloc(), script)? else {
+            assert!(rt; false, "files");
+            return Ok(());
+        };
+        assert!(rt; are_digits(played.board.schedule(), schedule.as_bytes()));
+        assert!(rt; played.board.console() == b"AA".as_slice());
+        assert!(rt; played.board.end() == Some(End::Shutdown));
+        assert!(rt; played.views.len() == 2);
+        assert!(rt; is_only(played.views[1].log(), at, vcpu, 1, 0x8000_003e));
+    }
+    Ok(())
+}
+
+#[test]
+fn an_entry_stands_though_its_code_is_never_run(rt: HostRuntime) -> Result<(), Fail> {
+    // An interrupt comes before the recovered code; a page is taken away before it.
+    for (image, setup, views, events, schedule, at, group, end) in [
+        (HANDLER, RAISED, HANDLER_VIEWS, "00000000000111000000", "00000001000", 7, 2, End::Shutdown),
+        (UNMAPPED, SHORT, UNMAPPED_VIEWS, "0000000000001111110", "000000001111010101011111", 8, 1, End::Spent),
+    ] {
+        let script = Script {
+            image,
+            setup,
+            views,
+            events,
+        };
+        let Some(played) = play(rt.alloc(), script)? else {
+            assert!(rt; false, "files");
+            return Ok(());
+        };
+        assert!(rt; are_digits(played.board.schedule(), schedule.as_bytes()));
+        assert!(rt; played.board.console().is_empty());
+        assert!(rt; played.board.end() == Some(end));
+        assert!(rt; played.views.len() == 2);
+        assert!(rt; is_only(played.views[1].log(), at, 0, group, 0x8000_0024));
     }
     Ok(())
 }
