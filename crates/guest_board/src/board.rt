@@ -13,6 +13,7 @@ ghost use Rattle.guest_board.specs.Step.{made_by, place_of};
 ghost use Rattle.guest_board.specs.Housed.{left_total};
 ghost use Rattle.guest_board.specs.Board.{broken_by, depth_of, full_after, full_answer, is_same_place, made_of, may, moved, name_of, next_of, next_start, no_slot, said, slot_after, step_of, stepped_by, vcpu_of};
 ghost use Rattle.guest_input.specs.Accepted.{IsImage, IsSetupFor};
+ghost use Rattle.guest_input.specs.declared.limits.TheConstants.{STEPS_MOST};
 ghost use Rattle.guest_board.specs.First.{first_seat};
 ghost use Rattle.guest_board.specs.Seen.{verdict_of, after_verdict, seen_by, trapped_at};
 
@@ -260,6 +261,7 @@ impl Board {
     pub fn clock(&self) -> u64
         ensures clock { result ≡ self.now.state.clock }
         ensures schedule { result ≡ length self.now.schedule }
+        ensures few { result ≤ STEPS_MOST }
     {
         self.schedule.len() as u64
     }
