@@ -3,9 +3,7 @@
 use crate::answer::Ended;
 use crate::fault::{Fault, Kind};
 use crate::finish::finish;
-use crate::inputs::{
-    take_free_views, take_image, take_script, take_setup, take_trace, take_views,
-};
+use crate::inputs::{take_free_views, take_image, take_script, take_setup, take_trace, take_views};
 use crate::line::{no_words, tell, turn_away};
 use crate::product::{Product, Refusal, Written};
 use fc_numbers::machine::Stop;
@@ -259,31 +257,19 @@ fn short_lines_are_told(rt: HostRuntime) -> Result<(), Fail> {
 
 /// Refused files, and their statuses and lines.
 static REFUSED: [(Fault, u8, &[u8]); 7] = [
-    (
-        Fault::TooLong(Kind::Setup),
-        4,
-        b"4 setup 0 TooLong\n",
-    ),
+    (Fault::TooLong(Kind::Setup), 4, b"4 setup 0 TooLong\n"),
     (
         Fault::Setup(SetupFault::Limit(Field::Steps)),
         4,
         b"4 setup 3 Limit steps\n",
     ),
-    (
-        Fault::TooLong(Kind::Script),
-        6,
-        b"6 script 0 TooLong\n",
-    ),
+    (Fault::TooLong(Kind::Script), 6, b"6 script 0 TooLong\n"),
     (
         Fault::Script(TraceFault::BadVcpu(1)),
         6,
         b"6 script 9 BadVcpu 1\n",
     ),
-    (
-        Fault::TooLong(Kind::Trace),
-        6,
-        b"6 trace 0 TooLong\n",
-    ),
+    (Fault::TooLong(Kind::Trace), 6, b"6 trace 0 TooLong\n"),
     (
         Fault::Trace(TraceFault::Truncated(18)),
         6,

@@ -82,14 +82,14 @@ module _ (logs : ℕ → List LogEntry) (each : (v : ℕ) → AllOfView v (logs 
       filter-append (λ (e : LogEntry). e.view == v) (logs a) (joined (a + 1) n)
       ∙ elim (a == v) as (λ b. (a == v) ≡ b → entries_for (logs a) v ++ entries_for (joined (a + 1) n) v ≡ logs v) [
         | true ↦ λ is.
-          let same : a ≡ v = grind (arith, nat_tests, is) in
-          let here : entries_for (logs a) v ≡ logs v = subst (λ w. entries_for (logs a) w ≡ logs w) same (own-entries a (logs a) (each a)) in
-          let rest : entries_for (joined (a + 1) n) v ≡ [] = none-below (a + 1) n v (omega (arith, same)) in
-          rw (here, rest) (append-nil (logs v))
+            let same : a ≡ v = grind (arith, nat_tests, is) in
+            let here : entries_for (logs a) v ≡ logs v = subst (λ w. entries_for (logs a) w ≡ logs w) same (own-entries a (logs a) (each a)) in
+            let rest : entries_for (joined (a + 1) n) v ≡ [] = none-below (a + 1) n v (omega (arith, same)) in
+            rw (here, rest) (append-nil (logs v))
         | false ↦ λ not.
-          let apart : a ≢ v = grind (arith, nat_tests, not) in
-          let here : entries_for (logs a) v ≡ [] = other-entries a v (logs a) (each a) apart in
-          rw here (one-of (a + 1) n v (omega (arith, low, apart)) (omega (arith, high)))
+            let apart : a ≢ v = grind (arith, nat_tests, not) in
+            let here : entries_for (logs a) v ≡ [] = other-entries a v (logs a) (each a) apart in
+            rw here (one-of (a + 1) n v (omega (arith, low, apart)) (omega (arith, high)))
       ] refl
 
   none-of-later : (a n v : ℕ) → v < a → list_any (λ x. x.view == v) (joined a n) ≡ false

@@ -25,10 +25,10 @@ has-without g h [] none = refl
 has-without g h (e ∷ es) none = elim (e.group == h) as (λ b. (e.group == h) ≡ b → (b || has h es) ≡ false → has h (without g (e ∷ es)) ≡ false) [
   | true ↦ λ is no. absurd (cc no)
   | false ↦ λ is no. let rest : has h (without g es) ≡ false = has-without g h es no in
-    elim (e.group == g) as (λ b. (e.group == g) ≡ b → has h (without g (e ∷ es)) ≡ false) [
-      | true ↦ λ of. rw of rest
-      | false ↦ λ of. rw (of, is) rest
-    ] refl
+      elim (e.group == g) as (λ b. (e.group == g) ≡ b → has h (without g (e ∷ es)) ≡ false) [
+        | true ↦ λ of. rw of rest
+        | false ↦ λ of. rw (of, is) rest
+      ] refl
 ] refl none
 
 once-without : (g : ℕ) (log : List LogEntry) → IsOnce log → IsOnce (without g log)
@@ -49,10 +49,10 @@ one-at-most : (g : ℕ) (log : List LogEntry) → IsOnce log → length log ≤ 
 one-at-most g [] once = omega arith
 one-at-most g (e ∷ es) once = elim (e.group == g) as (λ b. (e.group == g) ≡ b → length (e ∷ es) ≤ suc (length (without g (e ∷ es)))) [
   | true ↦ λ of.
-    let same : e.group ≡ g = grind (arith, nat_tests, of) in
-    let none : has g es ≡ false = subst (λ h. has h es ≡ false) same once.0 in
-    let rest : without g es ≡ es = without-none g es none in
-    rw (of, rest) (omega arith)
+      let same : e.group ≡ g = grind (arith, nat_tests, of) in
+      let none : has g es ≡ false = subst (λ h. has h es ≡ false) same once.0 in
+      let rest : without g es ≡ es = without-none g es none in
+      rw (of, rest) (omega arith)
   | false ↦ λ of. let rest : length es ≤ suc (length (without g es)) = one-at-most g es once.1 in rw of (omega (arith, rest))
 ] refl
 

@@ -58,12 +58,12 @@ module _ (c : Config) (board : Seat) (views : List PagedView) (run : IsRun c boa
   of-logs : (P : ℕ → List LogEntry → Type 0) → ((v : ℕ) → P v []) → ((v : ℕ) (d : PagedView) → v < length views → P v (slice_index_or views v d).log) → (v : ℕ) → P v (logs v)
   of-logs P none some v = elim (nat_lt v (length views)) as (λ b. nat_lt v (length views) ≡ b → P v (logs v)) [
     | true ↦ λ is.
-      let within : v < length views = grind (arith, nat_tests, is) in
-      let d : PagedView = paged_at c v [] in
-      subst (P v) (sym (log-is v d within)) (some v d within)
+        let within : v < length views = grind (arith, nat_tests, is) in
+        let d : PagedView = paged_at c v [] in
+        subst (P v) (sym (log-is v d within)) (some v d within)
     | false ↦ λ is.
-      let beyond : length (map (λ (p : PagedView). p.log) views) ≤ v = rw (length-map views (λ (p : PagedView). p.log)) (grind (arith, nat_tests, is)) in
-      subst (P v) (sym (get_or_past (map (λ (p : PagedView). p.log) views) v [] beyond)) (none v)
+        let beyond : length (map (λ (p : PagedView). p.log) views) ≤ v = rw (length-map views (λ (p : PagedView). p.log)) (grind (arith, nat_tests, is)) in
+        subst (P v) (sym (get_or_past (map (λ (p : PagedView). p.log) views) v [] beyond)) (none v)
   ] refl
 
   each : (v : ℕ) → AllOfView v (logs v)
@@ -136,8 +136,8 @@ entry-of stays c ok schedule e j =
     record {
       some = elim (e.view == 0) as (λ b. (e.view == 0) ≡ b → 1 ≤ e.view) [
         | true ↦ λ is.
-          let full : e.view ≡ 0 = grind (arith, nat_tests, is) in
-          absurd (cc (sym (subst (λ v. is_base c v e.group ≡ false) full j.missing) ∙ full-base c e.group group))
+            let full : e.view ≡ 0 = grind (arith, nat_tests, is) in
+            absurd (cc (sym (subst (λ v. is_base c v e.group ≡ false) full j.missing) ∙ full-base c e.group group))
         | false ↦ λ is. grind (arith, nat_tests, is)
       ] refl;
       group = omega (arith, group, good.fewer);
@@ -174,8 +174,8 @@ groups-below c schedule (e ∷ es) all = (all.0.group, groups-below c schedule e
 all-steps : NumberOfVcpusStays → (c : Config) (schedule : List ℕ) → IsLawful c schedule → AllByRecursion (λ v. v < c.setup.vcpus) schedule
 all-steps stays c schedule lawful = recursion_from_All (λ v. v < c.setup.vcpus) schedule
     (λ t d within.
-      let there : slice_index_or schedule t d ≡ slice_index schedule t = get_or_default schedule t d 0 within in
-      rw there (subst (λ n. slice_index schedule t < n) (vcpus-of stays c (take t schedule)) (may-within (rules_in c) (full_at c schedule t) (slice_index schedule t) (lawful t within))))
+    let there : slice_index_or schedule t d ≡ slice_index schedule t = get_or_default schedule t d 0 within in
+    rw there (subst (λ n. slice_index schedule t < n) (vcpus-of stays c (take t schedule)) (may-within (rules_in c) (full_at c schedule t) (slice_index schedule t) (lawful t within))))
 
 pub sound-trace : NumberOfVcpusStays → RunsHaveSoundTraces
 sound-trace stays c board views t run told = sound-told c board views run t told stays

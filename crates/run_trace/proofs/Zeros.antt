@@ -50,9 +50,9 @@ short-only v ram (half.In text q) p e none =
     elim (half_at ram q % 4 == 3) as (λ b. (half_at ram q % 4 == 3) ≡ b → text_place (if b then with_second ram text q (second_place v ram) else Short text q (half_at ram q)) ≡ Some p
     → (if b then with_second ram text q (second_place v ram) else Short text q (half_at ram q)) ≡ Short true p 0) [
       | true ↦ λ is h.
-        let both = second-none ram text q (second_place v ram) p h in
-        let zero-half : half_at ram q ≡ 0 = subst (λ x. half_at ram x ≡ 0) (sym both.1) none in
-        absurd (cc (sym is ∙ ap (λ n. n % 4 == 3) zero-half))
+          let both = second-none ram text q (second_place v ram) p h in
+          let zero-half : half_at ram q ≡ 0 = subst (λ x. half_at ram x ≡ 0) (sym both.1) none in
+          absurd (cc (sym is ∙ ap (λ n. n % 4 == 3) zero-half))
       | false ↦ λ is h. short text q h
     ] refl e
   where
