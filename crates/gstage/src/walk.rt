@@ -5,7 +5,9 @@ ghost use Rattle.std.specs.Prelude.{◌≡◌, ◌≤◌, ◌<◌, ◌+◌, ◌*
 ghost use Rattle.gstage.specs.Walk.{is_valid, is_pointer, leaf_at, walked_from, walked, top, bits};
 
 use fc_numbers::machine::GKind;
-use page_table::{PTE_A, PTE_D, PTE_R, PTE_U, PTE_V, PTE_W, PTE_X, has_bit, index, is_leaf, page_number};
+use page_table::{
+    PTE_A, PTE_D, PTE_R, PTE_U, PTE_V, PTE_W, PTE_X, has_bit, index, is_leaf, page_number,
+};
 
 /// A leaf: the host page that it maps a place to, and what may be done there.
 #[derive(Debug, Clone, Copy, PartialEq, Eq)]
@@ -94,7 +96,10 @@ fn walk_from(entries: &[u64], at: u64, level: u32, entry: u64) -> Option<Leaf>
     if level == 0 || !is_pointer(entry) {
         return None;
     }
-    let below = entry_at(entries, 512 * page_number(entry) + index(at, level as u64 - 1));
+    let below = entry_at(
+        entries,
+        512 * page_number(entry) + index(at, level as u64 - 1),
+    );
     walk_from(entries, at, level - 1, below)
 }
 
