@@ -4,37 +4,23 @@ use Rattle.std.specs.Prelude.{ℕ, ◌+◌, ◌-◌, ◌%◌, ◌^◌, ◌==◌,
 use Rattle.std.proofs.Common.{zero, suc}
 use Rattle.std.specs.Option.{option_to_list}
 use Rattle.fc_numbers.specs.declared.machine.Mode.{Mode}
-use Rattle.fc_numbers.specs.declared.machine.Access.{Access}
 use Rattle.fc_numbers.specs.declared.machine.Access.TheVariants.{Fetch, Load}
 use Rattle.fc_numbers.specs.declared.machine.Width.TheVariants.{Doubleword}
 use Rattle.fc_numbers.specs.Numbers.{get_reg}
 use Rattle.guest_ram.specs.Ram.{Ram, is_inside, is_text, value}
 use Rattle.rv_csr.specs.Csrs.{Csrs}
-use Rattle.rv_csr.specs.Csr.{is_set}
-use Rattle.sv39_walk.specs.declared.Walked.{Walked}
-use Rattle.sv39_walk.specs.declared.Walked.TheVariants.{At, PageFault, AccessFault, TableInText}
-use Rattle.sv39_walk.specs.Walk.{asked, walked}
+use Rattle.sv39_walk.specs.Walk.{place_for}
 use Rattle.chain_log.specs.declared.entry.TheConstants.{CHAIN_MOST}
 use Rattle.chain_log.specs.declared.chain.Frame.{Frame}
-use Rattle.chain_log.specs.declared.chain.TheConstants.{SUM, MXR, RA, FP}
-
-abbrev pub if_at : Walked → Option ℕ
-if_at (At place) = Some place
-if_at PageFault = None
-if_at AccessFault = None
-if_at TableInText = None
-
--- the place of an address in the vCPU's own mode
-unfoldable pub place_of : Ram → Csrs → Mode → Access → ℕ → Option ℕ
-place_of ram csr mode access va = if_at (walked ram csr.satp (asked mode (is_set csr.sstatus SUM) (is_set csr.sstatus MXR) access va))
+use Rattle.fc_numbers.specs.declared.regs.TheConstants.{RA, FP}
 
 -- the place in text that an address is executed from
 unfoldable pub code_at : Ram → Csrs → Mode → ℕ → Option ℕ
-code_at ram csr mode va = option_and_then (λ place. if is_text ram place then Some place else None) (place_of ram csr mode Fetch va)
+code_at ram csr mode va = option_and_then (λ place. if is_text ram place then Some place else None) (place_for ram csr mode Fetch va)
 
 -- the 8 bytes at an address
 unfoldable pub word_at : Ram → Csrs → Mode → ℕ → Option ℕ
-word_at ram csr mode va = option_and_then (λ place. if is_inside ram place then Some (value ram place Doubleword) else None) (place_of ram csr mode Load va)
+word_at ram csr mode va = option_and_then (λ place. if is_inside ram place then Some (value ram place Doubleword) else None) (place_for ram csr mode Load va)
 
 -- so many bytes below an address
 abbrev pub below : ℕ → ℕ → ℕ

@@ -1,6 +1,6 @@
 -- The line of text of a log entry: AT VCPU APP PC FUNCTION+OFFSET START END, then FUNCTION+OFFSET for each place of the chain.
 -- The format is this project's: AT and VCPU in decimal, the others in hexadecimal with 0x, one space between words, a newline at the end.
-use Rattle.std.specs.Prelude.{ℕ, ◌+◌, ◌-◌, false, List, [], ◌∷◌, ◌++◌, codes, map, slice_index_or}
+use Rattle.std.specs.Prelude.{ℕ, ◌-◌, false, List, [], ◌∷◌, ◌++◌, codes, map, slice_index_or}
 use Rattle.std.specs.List.{flat_map}
 use Rattle.std.specs.Fmt.{decimal, digits}
 use Rattle.guest_input.specs.declared.image.Function.{Function}

@@ -2,28 +2,16 @@
 
 ghost use Rattle.std.specs.Prelude.{◌≡◌, ◌≤◌, ◌<◌, ◌+◌, ◌-◌, ◌%◌, ◌^◌, ◌++◌, IfSome, length};
 ghost use Rattle.arrayvec.specs.ArrayVec.{array_vec_len};
-ghost use Rattle.chain_log.specs.Chain.{below, chain_of, code_at, frame_at, frames_from, place_of, word_at};
+ghost use Rattle.chain_log.specs.Chain.{below, chain_of, code_at, frame_at, frames_from, word_at};
 
 use crate::entry::{CHAIN_MOST, Chain};
 use arrayvec::ArrayVec;
 use fc_numbers::machine::{Access, Mode, Width};
 use fc_numbers::places::{Gpa, Va};
-use fc_numbers::regs::Regs;
+use fc_numbers::regs::{FP, RA, Regs};
 use guest_ram::GuestRam;
-use rv_csr::{CsrFile, has_bit};
-use sv39_walk::{Walked, walk};
-
-/// The register of the return address.
-pub const RA: u8 = 1;
-
-/// The register of the frame pointer.
-pub const FP: u8 = 8;
-
-/// The bit of sstatus that lets supervisor mode load from user pages.
-pub const SUM: u32 = 18;
-
-/// The bit of sstatus that lets loads read pages that may only be run.
-pub const MXR: u32 = 19;
+use rv_csr::CsrFile;
+use sv39_walk::place_for;
 
 /// What a frame holds: the place in text of the return address that it saved, and the frame pointer that it saved.
 #[derive(Clone, Copy)]
@@ -32,26 +20,12 @@ pub struct Frame {
     pub up: u64,
 }
 
-/// The place of an address in the vCPU's own mode.
-#[tactic(auto, unfolding(crate::specs::Chain::place_of))]
-fn place_of(ram: &GuestRam, csr: &CsrFile, mode: Mode, access: Access, va: Va) -> Option<Gpa>
-    ensures value { result ≡ place_of ram.now csr.now mode access va }
-    ensures low { IfSome result (λ place. place % 4096 ≡ va % 4096) }
-{
-    let sum = has_bit(csr.sstatus, SUM);
-    let mxr = has_bit(csr.sstatus, MXR);
-    match walk(ram, csr.satp, mode, sum, mxr, access, va) {
-        Walked::At(place) => Some(place),
-        _ => None,
-    }
-}
-
 /// The place in text that an address is executed from.
 #[tactic(auto, unfolding(crate::specs::Chain::code_at))]
 fn code_at(ram: &GuestRam, csr: &CsrFile, mode: Mode, va: Va) -> Option<Gpa>
     ensures { result ≡ code_at ram.now csr.now mode va }
 {
-    let place = place_of(ram, csr, mode, Access::Fetch, va)?;
+    let place = place_for(ram, csr, mode, Access::Fetch, va)?;
     if ram.in_text(place) {
         Some(place)
     } else {
@@ -65,7 +39,7 @@ fn word_at(ram: &GuestRam, csr: &CsrFile, mode: Mode, va: Va) -> Option<u64>
     requires { va % 8 ≡ 0 }
     ensures { result ≡ word_at ram.now csr.now mode va }
 {
-    let place = place_of(ram, csr, mode, Access::Load, va)?;
+    let place = place_for(ram, csr, mode, Access::Load, va)?;
     match ram.load(place, Width::Doubleword) {
         Ok(word) => Some(word),
         Err(_) => None,

@@ -1,15 +1,27 @@
 -- What a file gives and why it is refused exclude each other, and each is one.
-use Rattle.std.proofs.Common.{◌≡◌, ◌≢◌, ℕ, ◌<◌, arith, refl, ◌∙◌, sym, ap, subst, Option, Some, Ok, Err, List, length}
+use Rattle.std.proofs.Common.{◌≡◌, ◌≢◌, ℕ, ◌<◌, ◌⊎◌, inl, inr, arith, refl, ◌∙◌, sym, ap, subst, Option, Some, Ok, Err, List, length}
 use Rattle.std.specs.Prelude.{Result}
 use Rattle.guest_input.specs.declared.image.Image.{Image}
+use Rattle.guest_input.specs.declared.setup.Setup.{Setup}
 use Rattle.guest_image.specs.ImageFile.{image_of}
+use Rattle.guest_image.specs.Limits.{setup_of}
 use Rattle.view_file.specs.declared.views.Views.{Views}
 use Rattle.view_file.specs.declared.fault.ViewFault.{ViewFault}
 use Rattle.view_file.specs.declared.fault.ViewFault.TheVariants.{NoMemory}
-use Rattle.view_file.specs.Fits.{Reads}
-use Rattle.view_file.proofs.Once.{reads_once}
+use Rattle.view_file.specs.Fits.{Parses, Reads}
+use Rattle.view_file.specs.Once.{ReadsOnce, ParsesOnce}
+use Rattle.elf_read.specs.declared.parts.ElfFault.TheVariants as elf
+use Rattle.guest_image.specs.declared.image.ImageFault.{ImageFault}
+use Rattle.guest_image.specs.declared.image.ImageFault.TheVariants.{Elf}
+use Rattle.guest_image.specs.declared.setup.SetupFault.{SetupFault}
+use Rattle.guest_image.specs.declared.setup.SetupFault.TheVariants as no_setup
+use Rattle.trace_file.specs.declared.fault.TraceFault.{TraceFault}
+use Rattle.trace_file.specs.declared.fault.TraceFault.TheVariants as no_trace
+use Rattle.trace_file.specs.Script.{script_of}
+use Rattle.trace_file.specs.Trace.{Told, trace_of}
 use Rattle.command_frame.specs.Exact.{IsSure}
-use Rattle.command_frame.specs.Files.{IsHeld, IsTooLong, GivesImage, RefusesImage, GivesViews, RefusesViews}
+use Rattle.command_frame.specs.Files.{IsHeld, IsTooLong, IsGiven, IsRefused, HasImageFault, HasSetupFault, HasViewsFault, HasFreeViewsFault, HasScriptFault, HasTraceFault, GivesImage, RefusesImage, GivesSetup, RefusesSetup, GivesViews, RefusesViews, GivesFreeViews, RefusesFreeViews, GivesScript, RefusesScript, GivesTrace, RefusesTrace}
+use Rattle.command_frame.specs.declared.fault.Kind.{Kind}
 use Rattle.command_frame.specs.declared.fault.Kind.TheVariants as kind
 use Rattle.command_frame.specs.declared.fault.Fault.{Fault}
 use Rattle.command_frame.specs.declared.fault.Fault.TheVariants as fault
@@ -20,34 +32,50 @@ same-held held a b ha hb = cc (sym ha ∙ hb)
 short-or-long : (held : Option (List ℕ)) (bytes : List ℕ) → IsHeld held bytes → IsTooLong held → ⊥
 short-or-long held bytes k long = let same : bytes ≡ long.0 = same-held held bytes long.0 k.holds long.1 in omega (arith, ap (λ xs. length xs) same, k.within, long.2)
 
-ok-or-err : {T E : Type 0} (r : Result T E) (t : T) (e : E) → r ≡ Ok t → r ≡ Err e → ⊥
-ok-or-err r t e a b = absurd (cc (sym a ∙ b))
+-- bytes give one thing, or have one fault, and not both
+pub record IsClear (T : Type 0) (Give : List ℕ → T → Type 0) (Have : List ℕ → Fault → Type 0) : Type 0 where
+  pub same : (bytes : List ℕ) (s t : T) → Give bytes s → Give bytes t → s ≡ t
+  pub apart : (bytes : List ℕ) (t : T) (why : Fault) → Give bytes t → Have bytes why → ⊥
+  pub one : (bytes : List ℕ) (f g : Fault) → Have bytes f → Have bytes g → f ≡ g
 
-same-image : (held : Option (List ℕ)) (i j : Image) → GivesImage held i → GivesImage held j → i ≡ j
-same-image held i j a b =
-    let bytes : a.0 ≡ b.0 = same-held held a.0 b.0 a.1.holds b.1.holds in
-    cc (sym a.2 ∙ ap image_of bytes ∙ b.2)
+module _ (T : Type 0) (k : Kind) (Give : List ℕ → T → Type 0) (Have : List ℕ → Fault → Type 0) (clear : IsClear T Give Have) where
+  same-given : (held : Option (List ℕ)) (s t : T) → IsGiven Give held s → IsGiven Give held t → s ≡ t
+  same-given held s t a b = clear.same b.0 s t (subst (λ bytes. Give bytes s) (same-held held a.0 b.0 a.1.holds b.1.holds) a.2) b.2
 
-image-apart : (held : Option (List ℕ)) (i : Image) (why : Fault) → GivesImage held i → RefusesImage held why → ⊥
-image-apart held i (fault.TooLong kind.Image) a b = short-or-long held a.0 a.1 b
-image-apart held i (fault.TooLong kind.Views) a b = b
-image-apart held i (fault.Image why) a b =
-    let bytes : a.0 ≡ b.0 = same-held held a.0 b.0 a.1.holds b.1.holds in
-    ok-or-err (image_of a.0) i why a.2 (ap image_of bytes ∙ b.2)
-image-apart held i (fault.Views why) a b = b
+  given-or-refused : (held : Option (List ℕ)) (t : T) (why : Fault) → IsGiven Give held t → IsRefused k Have held why → ⊥
+  given-or-refused held t why a b = elim b [
+    | inl long ↦ short-or-long held a.0 a.1 long.1
+    | inr own ↦ clear.apart own.0 t why (subst (λ bytes. Give bytes t) (same-held held a.0 own.0 a.1.holds own.1.holds) a.2) own.2
+  ]
 
-one-image-fault : (held : Option (List ℕ)) (f g : Fault) → RefusesImage held f → RefusesImage held g → f ≡ g
-one-image-fault held (fault.TooLong kind.Image) (fault.TooLong kind.Image) a b = refl
-one-image-fault held (fault.TooLong kind.Image) (fault.Image g) a b = absurd (short-or-long held b.0 b.1 a)
-one-image-fault held (fault.Image f) (fault.TooLong kind.Image) a b = absurd (short-or-long held a.0 a.1 b)
-one-image-fault held (fault.Image f) (fault.Image g) a b =
-    let bytes : a.0 ≡ b.0 = same-held held a.0 b.0 a.1.holds b.1.holds in
-    let same : f ≡ g = cc (sym a.2 ∙ ap image_of bytes ∙ b.2) in
-    ap fault.Image same
-one-image-fault held (fault.TooLong kind.Views) g a b = absurd a
-one-image-fault held (fault.Views f) g a b = absurd a
-one-image-fault held f (fault.TooLong kind.Views) a b = absurd b
-one-image-fault held f (fault.Views g) a b = absurd b
+  one-refusal : (held : Option (List ℕ)) (f g : Fault) → IsRefused k Have held f → IsRefused k Have held g → f ≡ g
+  one-refusal held f g a b = elim a [
+    | inl long ↦ elim b [ inl other ↦ long.0 ∙ sym other.0 | inr own ↦ absurd (short-or-long held own.0 own.1 long.1) ]
+    | inr own ↦ elim b [
+      | inl long ↦ absurd (short-or-long held own.0 own.1 long.1)
+      | inr other ↦ clear.one other.0 f g (subst (λ bytes. Have bytes f) (same-held held own.0 other.0 own.1.holds other.1.holds) own.2) other.2
+    ]
+  ]
+
+  sure-of : IsSure T (IsGiven Give) (IsRefused k Have)
+  sure-of = record { same = same-given; apart = given-or-refused; one = one-refusal }
+
+-- a reading that is a function, whose faults are made into faults of files
+module _ (T : Type 0) (E : Type 0) (read : List ℕ → Result T E) (made : E → Fault) (none : E) where
+  one-value : (bytes : List ℕ) (s t : T) → read bytes ≡ Ok s → read bytes ≡ Ok t → s ≡ t
+  one-value bytes s t a b = cc (sym a ∙ b)
+
+  abbrev Faulty : List ℕ → Fault → Type 0
+  Faulty bytes why = (own : E) × (why ≡ made own) × (read bytes ≡ Err own) × (own ≢ none)
+
+  value-or-fault : (bytes : List ℕ) (t : T) (why : Fault) → read bytes ≡ Ok t → Faulty bytes why → ⊥
+  value-or-fault bytes t why a b = absurd (cc (sym a ∙ b.2))
+
+  one-fault : (bytes : List ℕ) (f g : Fault) → Faulty bytes f → Faulty bytes g → f ≡ g
+  one-fault bytes f g a b = let same : a.0 ≡ b.0 = cc (sym a.2 ∙ b.2) in a.1 ∙ ap made same ∙ sym b.1
+
+  clear-reading : IsClear T (λ bytes t. read bytes ≡ Ok t) Faulty
+  clear-reading = record { same = one-value; apart = value-or-fault; one = one-fault }
 
 abbrev Reading : Type 0
 Reading = Result Views ViewFault
@@ -64,35 +92,39 @@ there-is-memory v e = absurd (cc e)
 not-for-memory : (why : ViewFault) → why ≢ NoMemory → refused why ≢ refused NoMemory
 not-for-memory why other e = other (let same : why ≡ NoMemory = cc e in same)
 
-one-reading : (bytes other : List ℕ) (i : Image) (r s : Reading) → bytes ≡ other → Reads bytes i r → Reads other i s → r ≢ refused NoMemory → s ≢ refused NoMemory → r ≡ s
-one-reading bytes other i r s same a b m n = reads_once other i r s (subst (λ xs. Reads xs i r) same a) b m n
+-- a reading of views that is one, but for want of memory
+module _ (Read : List ℕ → Reading → Type 0) (once : (bytes : List ℕ) (r s : Reading) → Read bytes r → Read bytes s → r ≢ refused NoMemory → s ≢ refused NoMemory → r ≡ s) where
+  abbrev HasFault : List ℕ → Fault → Type 0
+  HasFault bytes why = (own : ViewFault) × (why ≡ fault.Views own) × Read bytes (refused own) × (own ≢ NoMemory)
 
-same-views : (held : Option (List ℕ)) (i : Image) (u v : Views) → GivesViews held i u → GivesViews held i v → u ≡ v
-same-views held i u v a b =
-    let same : given u ≡ given v = one-reading a.0 b.0 i (given u) (given v) (same-held held a.0 b.0 a.1.holds b.1.holds) a.2 b.2 (there-is-memory u) (there-is-memory v) in
-    cc same
+  same-views : (bytes : List ℕ) (u v : Views) → Read bytes (given u) → Read bytes (given v) → u ≡ v
+  same-views bytes u v a b = let same : given u ≡ given v = once bytes (given u) (given v) a b (there-is-memory u) (there-is-memory v) in cc same
 
-views-apart : (held : Option (List ℕ)) (i : Image) (v : Views) (why : Fault) → GivesViews held i v → RefusesViews held i why → ⊥
-views-apart held i v (fault.TooLong kind.Views) a b = short-or-long held a.0 a.1 b
-views-apart held i v (fault.TooLong kind.Image) a b = b
-views-apart held i v (fault.Image why) a b = b
-views-apart held i v (fault.Views why) a b =
-    absurd (cc (one-reading a.0 b.0 i (given v) (refused why) (same-held held a.0 b.0 a.1.holds b.1.holds) a.2 b.2 (there-is-memory v) (not-for-memory why b.3)))
+  views-or-fault : (bytes : List ℕ) (v : Views) (why : Fault) → Read bytes (given v) → HasFault bytes why → ⊥
+  views-or-fault bytes v why a b = absurd (cc (once bytes (given v) (refused b.0) a b.2 (there-is-memory v) (not-for-memory b.0 b.3)))
 
-one-views-fault : (held : Option (List ℕ)) (i : Image) (f g : Fault) → RefusesViews held i f → RefusesViews held i g → f ≡ g
-one-views-fault held i (fault.TooLong kind.Views) (fault.TooLong kind.Views) a b = refl
-one-views-fault held i (fault.TooLong kind.Views) (fault.Views g) a b = absurd (short-or-long held b.0 b.1 a)
-one-views-fault held i (fault.Views f) (fault.TooLong kind.Views) a b = absurd (short-or-long held a.0 a.1 b)
-one-views-fault held i (fault.Views f) (fault.Views g) a b =
-    let same : f ≡ g = cc (one-reading a.0 b.0 i (refused f) (refused g) (same-held held a.0 b.0 a.1.holds b.1.holds) a.2 b.2 (not-for-memory f a.3) (not-for-memory g b.3)) in
-    ap fault.Views same
-one-views-fault held i (fault.TooLong kind.Image) g a b = absurd a
-one-views-fault held i (fault.Image f) g a b = absurd a
-one-views-fault held i f (fault.TooLong kind.Image) a b = absurd b
-one-views-fault held i f (fault.Image g) a b = absurd b
+  one-views-fault : (bytes : List ℕ) (f g : Fault) → HasFault bytes f → HasFault bytes g → f ≡ g
+  one-views-fault bytes f g a b =
+      let same : a.0 ≡ b.0 = cc (once bytes (refused a.0) (refused b.0) a.2 b.2 (not-for-memory a.0 a.3) (not-for-memory b.0 b.3)) in
+      a.1 ∙ ap fault.Views same ∙ sym b.1
+
+  clear-views : IsClear Views (λ bytes v. Read bytes (given v)) HasFault
+  clear-views = record { same = same-views; apart = views-or-fault; one = one-views-fault }
 
 pub image_sure : IsSure Image GivesImage RefusesImage
-image_sure = record { same = same-image; apart = image-apart; one = one-image-fault }
+image_sure = sure-of Image kind.Image (λ bytes i. image_of bytes ≡ Ok i) HasImageFault (clear-reading Image ImageFault image_of fault.Image (Elf elf.NoMemory))
 
-pub views_sure : (i : Image) → IsSure Views (λ held. GivesViews held i) (λ held. RefusesViews held i)
-views_sure i = record { same = λ held u v. same-views held i u v; apart = λ held v why. views-apart held i v why; one = λ held f g. one-views-fault held i f g }
+pub setup_sure : (i : Image) → IsSure Setup (λ held. GivesSetup held i) (λ held. RefusesSetup held i)
+setup_sure i = sure-of Setup kind.Setup (λ bytes s. setup_of i bytes ≡ Ok s) (HasSetupFault i) (clear-reading Setup SetupFault (setup_of i) fault.Setup no_setup.NoMemory)
+
+pub script_sure : (vcpus : ℕ) → IsSure (List ℕ) (λ held. GivesScript held vcpus) (λ held. RefusesScript held vcpus)
+script_sure vcpus = sure-of (List ℕ) kind.Script (λ bytes is. script_of vcpus bytes ≡ Ok is) (HasScriptFault vcpus) (clear-reading (List ℕ) TraceFault (script_of vcpus) fault.Script no_trace.NoMemory)
+
+pub trace_sure : IsSure Told GivesTrace RefusesTrace
+trace_sure = sure-of Told kind.Trace (λ bytes t. trace_of bytes ≡ Ok t) HasTraceFault (clear-reading Told TraceFault trace_of fault.Trace no_trace.NoMemory)
+
+pub views_sure : ReadsOnce → (i : Image) → IsSure Views (λ held. GivesViews held i) (λ held. RefusesViews held i)
+views_sure once i = sure-of Views kind.Views (λ bytes v. Reads bytes i (Ok v)) (HasViewsFault i) (clear-views (λ bytes r. Reads bytes i r) (λ bytes r s. once bytes i r s))
+
+pub free_views_sure : ParsesOnce → IsSure Views GivesFreeViews RefusesFreeViews
+free_views_sure once = sure-of Views kind.Views (λ bytes v. Parses bytes (Ok v)) HasFreeViewsFault (clear-views Parses once)

@@ -3,13 +3,15 @@
 use Rattle.std.specs.Prelude.{◌≡◌, ℕ, Bool, true, false, Option, List, ◌++◌, codes, decimal}
 use Rattle.fc_outside.specs.Outside.{Rose, with_more}
 use Rattle.command_frame.specs.declared.status.Status.{Status}
-use Rattle.command_frame.specs.declared.status.Status.TheVariants.{Finished, Words, Image, Views, Unread, Unwritten, Stopped, NoMemory, Differs}
+use Rattle.command_frame.specs.declared.status.Status.TheVariants.{Finished, Words, Image, Setup, Views, Order, Unread, Unwritten, Stopped, NoMemory, Differs}
 
 abbrev pub number_of : Status → ℕ
 number_of Finished = 0
 number_of Words = 2
 number_of Image = 3
+number_of Setup = 4
 number_of Views = 5
+number_of Order = 6
 number_of Unread = 7
 number_of Unwritten = 8
 number_of Stopped = 9

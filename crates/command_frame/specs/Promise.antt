@@ -2,9 +2,11 @@
 use Rattle.std.specs.Prelude.{◌≡◌, ℕ, ◌⊎◌, Option, Some, None, List, [], ◌∷◌, map, Result, Ok, Err}
 use Rattle.fc_outside.specs.Outside.{Faults, IsFaultOf}
 use Rattle.guest_input.specs.declared.image.Image.{Image}
+use Rattle.guest_input.specs.declared.setup.Setup.{Setup}
+use Rattle.trace_file.specs.Trace.{Told as TraceTold}
 use Rattle.view_file.specs.declared.views.Views.{Views}
 use Rattle.command_frame.specs.Answers.{word_at}
-use Rattle.command_frame.specs.Files.{GivesImage, RefusesImage, GivesViews, RefusesViews}
+use Rattle.command_frame.specs.Files.{GivesImage, RefusesImage, GivesSetup, RefusesSetup, GivesViews, RefusesViews, GivesFreeViews, RefusesFreeViews, GivesScript, RefusesScript, GivesTrace, RefusesTrace}
 use Rattle.command_frame.specs.declared.fault.Fault.{Fault}
 use Rattle.command_frame.specs.declared.product.Written.{Written}
 use Rattle.command_frame.specs.declared.product.Product.{Product}
@@ -20,8 +22,22 @@ pub data Promise : Type 1 where
 abbrev pub takes_image : ℕ → (Image → Promise) → Promise
 takes_image n rest = takes Image GivesImage RefusesImage n rest
 
+abbrev pub takes_setup : ℕ → Image → (Setup → Promise) → Promise
+takes_setup n i rest = takes Setup (λ held. GivesSetup held i) (λ held. RefusesSetup held i) n rest
+
 abbrev pub takes_views : ℕ → Image → (Views → Promise) → Promise
 takes_views n i rest = takes Views (λ held. GivesViews held i) (λ held. RefusesViews held i) n rest
+
+-- views for whatever image
+abbrev pub takes_free_views : ℕ → (Views → Promise) → Promise
+takes_free_views n rest = takes Views GivesFreeViews RefusesFreeViews n rest
+
+-- a script for so many vCPUs
+abbrev pub takes_script : ℕ → ℕ → (List ℕ → Promise) → Promise
+takes_script n vcpus rest = takes (List ℕ) (λ held. GivesScript held vcpus) (λ held. RefusesScript held vcpus) n rest
+
+abbrev pub takes_trace : ℕ → (TraceTold → Promise) → Promise
+takes_trace n rest = takes TraceTold GivesTrace RefusesTrace n rest
 
 -- a request: the words, the places of the input files and of the output files in them, and what is promised
 pub record Request : Type 1 where

@@ -1,14 +1,17 @@
 //! Why a file is refused.
 
 ghost use Rattle.std.specs.Prelude.{◌≡◌, codes, string_bytes, IfOk};
-ghost use Rattle.guest_image.specs.Faults.{image_fault_text};
-ghost use Rattle.view_file.specs.Faults.{shown_fault};
+ghost use Rattle.guest_image.specs.Faults.{image_fault_text, setup_fault_text};
+ghost use Rattle.view_file.specs.Faults.{shown_fault as shown_views_fault};
+ghost use Rattle.trace_file.specs.Faults.{shown_fault as shown_trace_fault};
 ghost use Rattle.command_frame.specs.Faults.{file_kind, kind_status, kind_word, fault_text};
 
 use crate::status::Status;
 use fc_numbers::memory::NoMemory;
 use guest_image::image::ImageFault;
+use guest_image::setup::SetupFault;
 use std::alloc::Global;
+use trace_file::fault::TraceFault;
 use view_file::fault::ViewFault;
 
 /// What a file is to hold.
@@ -16,8 +19,14 @@ use view_file::fault::ViewFault;
 pub enum Kind {
     /// An image: a kernel with its functions and data.
     Image,
-    /// Views for an image.
+    /// A setup for an image.
+    Setup,
+    /// Views, for an image or for none in particular.
     Views,
+    /// A script for the vCPUs of a setup.
+    Script,
+    /// The trace of a run.
+    Trace,
 }
 
 /// Why a file, or what is made of files, is refused. Want of memory is no such reason.
@@ -27,8 +36,14 @@ pub enum Fault {
     TooLong(Kind),
     /// The bytes give no image, for this reason.
     Image(ImageFault),
+    /// The bytes give no setup, for this reason.
+    Setup(SetupFault),
     /// The bytes give no views, for this reason.
     Views(ViewFault),
+    /// The bytes give no script, for this reason.
+    Script(TraceFault),
+    /// The bytes give no trace, for this reason.
+    Trace(TraceFault),
 }
 
 impl Kind {
@@ -38,7 +53,9 @@ impl Kind {
     {
         match self {
             Kind::Image => Status::Image,
+            Kind::Setup => Status::Setup,
             Kind::Views => Status::Views,
+            Kind::Script | Kind::Trace => Status::Order,
         }
     }
 
@@ -48,7 +65,10 @@ impl Kind {
     {
         match self {
             Kind::Image => " image ",
+            Kind::Setup => " setup ",
             Kind::Views => " views ",
+            Kind::Script => " script ",
+            Kind::Trace => " trace ",
         }
     }
 }
@@ -61,7 +81,10 @@ impl Fault {
         match self {
             Fault::TooLong(kind) => kind,
             Fault::Image(_) => Kind::Image,
+            Fault::Setup(_) => Kind::Setup,
             Fault::Views(_) => Kind::Views,
+            Fault::Script(_) => Kind::Script,
+            Fault::Trace(_) => Kind::Trace,
         }
     }
 
@@ -72,7 +95,9 @@ impl Fault {
         match self {
             Fault::TooLong(_) => Ok(String::from_str(alloc, "0 TooLong")?),
             Fault::Image(fault) => fault.text(alloc),
+            Fault::Setup(fault) => fault.text(alloc),
             Fault::Views(fault) => Ok(format!(in alloc; "{fault}")?),
+            Fault::Script(fault) | Fault::Trace(fault) => Ok(format!(in alloc; "{fault}")?),
         }
     }
 }

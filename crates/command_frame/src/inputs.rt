@@ -2,11 +2,13 @@
 
 ghost use Rattle.std.specs.Prelude.{◌≡◌, ◌≤◌, ℕ, List, Option, Some, Ok, Err, IfOk, map, string_bytes, length};
 ghost use Rattle.fc_outside.specs.Outside.{Faults};
-ghost use Rattle.guest_input.specs.Accepted.{IsImage};
+ghost use Rattle.guest_input.specs.Accepted.{IsImage, IsSetupFor};
 ghost use Rattle.function_table.specs.Groups.{groups_of};
 ghost use Rattle.view_file.specs.Fits.{IsViewsFor};
 ghost use Rattle.command_frame.specs.Answers.{word_at};
-ghost use Rattle.command_frame.specs.Files.{IsHeld, IsTooLong, GivesImage, RefusesImage, GivesViews, RefusesViews};
+ghost use Rattle.trace_file.specs.Trace.{told};
+ghost use Rattle.trace_file.specs.Lawful.{IsLawful};
+ghost use Rattle.command_frame.specs.Files.{IsHeld, IsTooLong, GivesImage, RefusesImage, GivesSetup, RefusesSetup, GivesViews, RefusesViews, GivesFreeViews, RefusesFreeViews, GivesScript, RefusesScript, GivesTrace, RefusesTrace};
 ghost use Rattle.command_frame.specs.Promise.{Told, held_by};
 ghost use Rattle.command_frame.specs.Taken.{BytesSaid, Takes, Counts};
 
@@ -14,14 +16,22 @@ use crate::answer::word_at;
 use crate::fault::{Fault, Kind};
 use crate::product::Refusal;
 use elf_read::parts::ElfFault;
+use fc_numbers::places::VcpuNo;
 use fc_outside::outside::{ReadNo, Store};
 use function_table::table::Table;
 use guest_image::image::ImageFault;
 use guest_image::image_file::read_image;
+use guest_image::setup::SetupFault;
+use guest_image::setup_file::read_setup;
 use guest_input::image::Image;
+use guest_input::setup::Setup;
 use std::alloc::Global;
+use trace_file::fault::TraceFault;
+use trace_file::reading::read_trace;
+use trace_file::script::read_script;
+use trace_file::trace::{Trace, VCPUS_MOST};
 use view_file::fault::ViewFault;
-use view_file::read::read_views;
+use view_file::read::{parse_views, read_views};
 use view_file::views::Views;
 
 /// The most bytes of a file that is read: 192 MiB.
@@ -71,6 +81,29 @@ pub fn take_image<S: Store>(
     }
 }
 
+/// The setup for the image that the file gives which the word at this place names.
+pub fn take_setup<S: Store>(
+    alloc: Global,
+    store: &mut S,
+    words: &[String],
+    at: usize,
+    image: &Image,
+) -> Result<Setup, Refusal>
+    ensures lawful { IfOk result (λ setup. IsSetupFor image.now setup) }
+    ensures said { (told : Told) → S.files store.old ≡ Some told
+        → let held = held_by (map string_bytes words.now) told at in Takes (GivesSetup held image.now) (RefusesSetup held image.now) at result }
+    ensures counted { Counts (word_at (map string_bytes words.now) at) at (S.reads store.old) (S.reads store.new) result }
+    ensures files { S.files store.new ≡ S.files store.old }
+    ensures writes { S.writes store.new ≡ S.writes store.old }
+{
+    let bytes = take_bytes(alloc, store, words, at, Kind::Setup)?;
+    match read_setup(alloc, &bytes, image) {
+        Ok(setup) => Ok(setup),
+        Err(SetupFault::NoMemory) => Err(Refusal::NoMemory),
+        Err(fault) => Err(Refusal::Fault(Fault::Setup(fault))),
+    }
+}
+
 /// The views for the image that the file gives which the word at this place names.
 pub fn take_views<S: Store>(
     alloc: Global,
@@ -93,5 +126,72 @@ pub fn take_views<S: Store>(
         Ok(views) => Ok(views),
         Err(ViewFault::NoMemory) => Err(Refusal::NoMemory),
         Err(fault) => Err(Refusal::Fault(Fault::Views(fault))),
+    }
+}
+
+/// The views, for whatever image, that the file gives which the word at this place names.
+pub fn take_free_views<S: Store>(
+    alloc: Global,
+    store: &mut S,
+    words: &[String],
+    at: usize,
+) -> Result<Views, Refusal>
+    ensures said { (told : Told) → S.files store.old ≡ Some told
+        → let held = held_by (map string_bytes words.now) told at in Takes (GivesFreeViews held) (RefusesFreeViews held) at result }
+    ensures counted { Counts (word_at (map string_bytes words.now) at) at (S.reads store.old) (S.reads store.new) result }
+    ensures files { S.files store.new ≡ S.files store.old }
+    ensures writes { S.writes store.new ≡ S.writes store.old }
+{
+    let bytes = take_bytes(alloc, store, words, at, Kind::Views)?;
+    match parse_views(alloc, &bytes) {
+        Ok(views) => Ok(views),
+        Err(ViewFault::NoMemory) => Err(Refusal::NoMemory),
+        Err(fault) => Err(Refusal::Fault(Fault::Views(fault))),
+    }
+}
+
+/// The script for so many vCPUs that the file gives which the word at this place names.
+pub fn take_script<S: Store>(
+    alloc: Global,
+    store: &mut S,
+    words: &[String],
+    at: usize,
+    vcpus: u8,
+) -> Result<Vec<VcpuNo>, Refusal>
+    requires some { 1 ≤ vcpus }
+    requires most { vcpus ≤ VCPUS_MOST }
+    ensures said { (told : Told) → S.files store.old ≡ Some told
+        → let held = held_by (map string_bytes words.now) told at in Takes (λ script. GivesScript held vcpus script.items) (RefusesScript held vcpus) at result }
+    ensures counted { Counts (word_at (map string_bytes words.now) at) at (S.reads store.old) (S.reads store.new) result }
+    ensures files { S.files store.new ≡ S.files store.old }
+    ensures writes { S.writes store.new ≡ S.writes store.old }
+{
+    let bytes = take_bytes(alloc, store, words, at, Kind::Script)?;
+    match read_script(alloc, &bytes, vcpus) {
+        Ok(script) => Ok(script),
+        Err(TraceFault::NoMemory) => Err(Refusal::NoMemory),
+        Err(fault) => Err(Refusal::Fault(Fault::Script(fault))),
+    }
+}
+
+/// The trace that the file gives which the word at this place names.
+pub fn take_trace<S: Store>(
+    alloc: Global,
+    store: &mut S,
+    words: &[String],
+    at: usize,
+) -> Result<Trace, Refusal>
+    ensures lawful { IfOk result (λ trace. IsLawful (told trace)) }
+    ensures said { (files : Told) → S.files store.old ≡ Some files
+        → let held = held_by (map string_bytes words.now) files at in Takes (λ trace. GivesTrace held (told trace)) (RefusesTrace held) at result }
+    ensures counted { Counts (word_at (map string_bytes words.now) at) at (S.reads store.old) (S.reads store.new) result }
+    ensures files { S.files store.new ≡ S.files store.old }
+    ensures writes { S.writes store.new ≡ S.writes store.old }
+{
+    let bytes = take_bytes(alloc, store, words, at, Kind::Trace)?;
+    match read_trace(alloc, &bytes) {
+        Ok(trace) => Ok(trace),
+        Err(TraceFault::NoMemory) => Err(Refusal::NoMemory),
+        Err(fault) => Err(Refusal::Fault(Fault::Trace(fault))),
     }
 }

@@ -12,8 +12,12 @@ pub enum Status {
     Words = 2,
     /// The image is refused.
     Image = 3,
+    /// The setup is refused.
+    Setup = 4,
     /// Views are refused.
     Views = 5,
+    /// The script or the trace is refused: what gives the order of the steps.
+    Order = 6,
     /// A file could not be read.
     Unread = 7,
     /// A file, or standard output, could not be written.

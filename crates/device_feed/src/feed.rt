@@ -13,7 +13,7 @@ use crate::sbi::{
 };
 use fc_numbers::memory::NoMemory;
 use fc_numbers::places::VcpuNo;
-use fc_numbers::regs::Regs;
+use fc_numbers::regs::{A0, A1, A6, A7, Regs};
 use guest_input::setup::{Event, Setup};
 use std::alloc::Global;
 use std::marker::Model;
@@ -26,18 +26,6 @@ const TIMER_LINE: u64 = 1 << 5;
 
 /// The pending bit of the external interrupt.
 const EXTERNAL_LINE: u64 = 1 << 9;
-
-/// Register x10: the first argument, and the first answer.
-const A0: u8 = 10;
-
-/// Register x11: the second argument, and the second answer.
-const A1: u8 = 11;
-
-/// Register x16: the number of the function.
-const A6: u8 = 16;
-
-/// Register x17: the number of the extension.
-const A7: u8 = 17;
 
 /// The devices of a run: its events, the keys that were taken, and the software bit and the timer of each vCPU.
 #[derive(Drop)]

@@ -3,9 +3,9 @@
 //! - [`places`]: guest places and addresses, the numbers of vCPUs, views and groups, spans of places.
 //! - [`machine`]: privilege modes, kinds of access, access widths, and how a run ends.
 //! - [`spans`]: kernel text as ranges of places, and the offsets of its bytes; [`laws`]: how the two go together.
-//! - [`regs`]: the 32 integer registers, and sign extension.
+//! - [`regs`]: the 32 integer registers with their names, and sign extension.
 //! - [`name`]: the name of an application.
-//! - [`pair`]: the two halfwords of a view's pages that a lane holds.
+//! - [`window`]: a line of a view's pages, of which a lane holds copies.
 //! - [`shared`]: bytes that several owners share and nobody changes, as the text of an image.
 //! - [`memory`]: want of memory, the one free answer.
 //!
@@ -17,8 +17,8 @@ pub mod laws;
 pub mod machine;
 pub mod memory;
 pub mod name;
-pub mod pair;
 pub mod places;
 pub mod regs;
 pub mod shared;
 pub mod spans;
+pub mod window;

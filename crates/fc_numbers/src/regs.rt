@@ -5,6 +5,24 @@ ghost use Rattle.fc_numbers.specs.Numbers.{get_reg, set_reg, zero_regs, sext_of}
 
 use std::marker::Model;
 
+/// Register x1: the return address, in the standard calling convention.
+pub const RA: u8 = 1;
+
+/// Register x8: the frame pointer.
+pub const FP: u8 = 8;
+
+/// Register x10: the first argument, and the first answer.
+pub const A0: u8 = 10;
+
+/// Register x11: the second argument, and the second answer.
+pub const A1: u8 = 11;
+
+/// Register x16: the number of the function of a supervisor call.
+pub const A6: u8 = 16;
+
+/// Register x17: the number of the extension of a supervisor call.
+pub const A7: u8 = 17;
+
 /// The registers x0 to x31; x0 is always 0. In contracts they are the list of the 32 numbers.
 #[derive(Debug, Clone, Copy)]
 pub struct Regs {

@@ -21,7 +21,8 @@ use Rattle.guest_input.specs.declared.image.Function.{Function}
 use Rattle.guest_input.specs.declared.image.Start.{Start}
 use Rattle.guest_input.specs.Text.{IsStartIn, bytes_before, bytes_of, flat_of, no_span, spans_of}
 use Rattle.guest_input.specs.Accepted.{IsAscendingFrom, IsStarts, IsImage, starts_of}
-use Rattle.function_table.specs.Groups.{Groups, IsRangeOf, IsGroups, group_in, group_at, groups_of, groups_count, range_of, first_of, last_of, in_text, is_between, is_closed, begins_range, has_start, is_open, half_of, function_in}
+use Rattle.function_table.specs.Groups.{Groups, IsRangeOf, IsGroups, group_in, group_at, groups_of, groups_count, range_of, first_of, last_of, in_text, is_between, is_closed, begins_range, has_start, half_of, function_in}
+use Rattle.lane_kernels.specs.Kernels.{is_open}
 
 -- where group g begins and ends, the first one at `low`
 abbrev begin_at : ℕ → List ℕ → ℕ → ℕ

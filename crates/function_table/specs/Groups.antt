@@ -2,6 +2,7 @@
 -- A function is joined to the next of its range where its last halfword has low bits 11: by the unprivileged manual ("Base Instruction-Length Encoding") a longer instruction begins there, and it may end in the next function.
 use Rattle.std.specs.Prelude.{◌≡◌, ℕ, ◌+◌, ◌-◌, ◌*◌, ◌/◌, ◌%◌, ◌<◌, ◌≤◌, ◌==◌, ◌&&◌, ◌||◌, Bool, true, false, not, nat_lt, nat_le, Contains, List, [], ◌∷◌, length, filter, count_by, slice_index, slice_index_or}
 use Rattle.std.specs.List.{list_any}
+use Rattle.lane_kernels.specs.Kernels.{is_open}
 use Rattle.fc_numbers.specs.declared.places.Span.{Span}
 use Rattle.fc_numbers.specs.declared.places.TheConstants.{RAM_START, RAM_MOST}
 use Rattle.fc_numbers.specs.Spans.{IsTextBelow, holds, offset_in, place_in, size_of, text_size}
@@ -21,10 +22,6 @@ pub record Groups : Type 0 where
 -- halfword n of a text, little endian
 abbrev pub half_of : List ℕ → ℕ → ℕ
 half_of text n = slice_index text (2 * n) + 256 * slice_index text (2 * n + 1)
-
--- a halfword with low bits 11 begins an instruction that goes on behind it
-abbrev pub is_open : ℕ → Bool
-is_open half = half % 4 == 3
 
 -- a range begins at the offset
 abbrev pub begins_range : List Span → ℕ → Bool

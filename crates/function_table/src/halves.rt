@@ -1,7 +1,8 @@
 //! Text as halfwords, and where a function's last one is open.
 
 ghost use Rattle.std.specs.Prelude.{◌≡◌, ◌<◌, ◌^◌, slice_index};
-ghost use Rattle.function_table.specs.Groups.{begins_range, half_of, is_open, is_closed};
+ghost use Rattle.lane_kernels.specs.Kernels.{is_open};
+ghost use Rattle.function_table.specs.Groups.{begins_range, half_of, is_closed};
 
 use fc_numbers::places::Span;
 

@@ -1,7 +1,6 @@
 -- A step that ends the run by a stop or a shutdown has changed nothing else.
-use Rattle.std.proofs.Common.{◌≡◌, ◌≢◌, ℕ, true, false, refl, sym, ◌∙◌, Option, Some, None, List}
-use Rattle.std.specs.Prelude.{if◌then◌else◌}
-use Rattle.std.proofs.lemmas.List.{set-get_or}
+use Rattle.std.proofs.Common.{◌≡◌, ◌≢◌, ℕ, Bool, true, false, refl, sym, ◌∙◌, Option, Some, None, List}
+use Rattle.std.specs.Prelude.{if◌then◌else◌, ◌&&◌, is_none, slice_set}
 use Rattle.fc_numbers.specs.declared.machine.End.{End}
 use Rattle.fc_numbers.specs.declared.machine.End.TheVariants.{Spent}
 use Rattle.rv_decode.specs.declared.Inst.{Inst}
@@ -12,15 +11,17 @@ use Rattle.rv_step.specs.Site.{Site, Outcome}
 use Rattle.rv_step.specs.Executed.{did}
 use Rattle.rv_step.specs.Kept.{IsUntouchedUnless}
 use Rattle.rv_step.proofs.Untouched.{did_changes_on_next}
-use Rattle.guest_board.specs.declared.fetch.Fetched.{Fetched}
 use Rattle.guest_board.specs.declared.fetch.Fetched.TheVariants.{Short, Long, Faults, Stops}
+use Rattle.guest_board.specs.declared.rules.Rules.{Rules}
+use Rattle.guest_board.specs.declared.slot.Slot.{Slot}
 use Rattle.guest_board.specs.declared.step.Nesting.{Nesting}
 use Rattle.guest_board.specs.declared.step.Nesting.TheVariants.{Stays}
-use Rattle.guest_board.specs.declared.step.Ready.{Ready}
-use Rattle.guest_board.specs.declared.step.Ready.TheVariants.{Interrupt, Fetches}
-use Rattle.guest_board.specs.Step.{Made, by_inst, by_fetch, made_by, settled, nesting_of, word}
-use Rattle.guest_board.specs.Board.{State, ready_at, site_of, step_of, after_made, end_after, is_spent, counted, nobody}
-use Rattle.guest_board.specs.Laws.{EndsOnly}
+use Rattle.guest_board.specs.declared.step.StepStart.{StepStart}
+use Rattle.guest_board.specs.declared.step.StepStart.TheVariants.{Interrupt, Fetches}
+use Rattle.guest_board.specs.Made.{Made, settled, nesting_of}
+use Rattle.guest_board.specs.Step.{by_inst, made_by, place_of, word}
+use Rattle.guest_board.specs.Board.{State, after_made, end_after, is_same_place, is_spent, site_of, slot_after, slot_of, slots_after}
+use Rattle.guest_board.specs.Laws.{EndsChangeNothing, EndsOnly, counted}
 
 -- what a step made that has ended the run
 pub record IsIdle (s : Site) (m : Made) : Type 0 where
@@ -45,47 +46,52 @@ inst-idle None bits len clock s e ended = absurd (cc ended)
 inst-idle (Some inst) bits len clock s e ended =
     settled-idle s (did inst len clock s) bits (nesting_of inst) (did inst len clock s).effect refl (did_changes_on_next inst len clock s) e ended
 
-fetch-idle : (got : Fetched) (clock : ℕ) (s : Site) → IdleIfEnded s (by_fetch got clock s)
-unfolding by_fetch
-fetch-idle (Short text p h) clock s e ended = inst-idle (decode16_of h) h 2 clock s e ended
-fetch-idle (Long text p h g) clock s e ended = inst-idle (decode_of (word h g)) (word h g) 4 clock s e ended
-fetch-idle (Faults cause tval) clock s e ended = absurd (cc ended)
-fetch-idle (Stops stop) clock s e ended = record { vcpu = refl; ram = refl; devices = refl; put = refl; wrote = refl; nesting = refl }
-
-made-idle : (ready : Ready) (clock : ℕ) (s : Site) → IdleIfEnded s (made_by ready clock s)
+made-idle : (start : StepStart) (clock : ℕ) (s : Site) → IdleIfEnded s (made_by start clock s)
 unfolding made_by
 made-idle (Interrupt code) clock s e ended = absurd (cc ended)
-made-idle (Fetches got) clock s e ended = fetch-idle got clock s e ended
+made-idle (Fetches (Short text p h)) clock s e ended = inst-idle (decode16_of h) h 2 clock s e ended
+made-idle (Fetches (Long text p h g)) clock s e ended = inst-idle (decode_of (word h g)) (word h g) 4 clock s e ended
+made-idle (Fetches (Faults cause tval)) clock s e ended = absurd (cc ended)
+made-idle (Fetches (Stops stop)) clock s e ended = record { vcpu = refl; ram = refl; devices = refl; put = refl; wrote = refl; nesting = refl }
 
 -- an end that is not that of spent steps is the step's own
-own-end : (steps : ℕ) (ns : List ℕ) (o : Option End) (e : End) → end_after steps ns o ≡ Some e → e ≢ Spent → o ≡ Some e
-own-end steps ns (Some x) e is other = is
-own-end steps ns None e is other =
-    elim (is_spent steps ns) as (λ b. (if b then Some Spent else None) ≡ Some e → None ≡ Some e) [
+own-end : (rules : Rules) (slots : List Slot) (o : Option End) (e : End) → end_after rules slots o ≡ Some e → e ≢ Spent → o ≡ Some e
+own-end rules slots (Some x) e is other = is
+own-end rules slots None e is other =
+    elim (is_spent rules slots) as (λ b. (if b then Some Spent else None) ≡ Some e → None ≡ Some e) [
       | true ↦ λ h. absurd (other (sym (cc h)))
       | false ↦ λ h. h
     ] is
 
-after-idle : (steps : ℕ) (s : State) (i : ℕ) (m : Made) → IsIdle (site_of s i) m → EndsOnly i s (after_made steps s i m)
+-- a step that ends the run is no hook step
+no-hook : (b : Bool) (o : Option End) (e : End) → o ≡ Some e → (b && is_none o) ≡ false
+no-hook true o e is = rw is refl
+no-hook false o e is = refl
+
+slot-idle : (rules : Rules) (s : Site) (slot : Slot) (start : StepStart) (m : Made) (e : End) → m.left.end ≡ Some e → slot.vcpu ≡ s.vcpu → IsIdle s m → slot_after rules s slot start m ≡ counted slot
+unfolding slot_after
+slot-idle rules s slot start m e ended own k = rw (no-hook (is_same_place (place_of start) rules.hook) m.left.end e ended, k.vcpu, k.nesting, sym own) refl
+
+slots-idle : (rules : Rules) (s : State) (i : ℕ) (start : StepStart) (m : Made) (e : End) → m.left.end ≡ Some e → IsIdle (site_of s i) m → slots_after rules s i start m ≡ slice_set s.slots i (counted (slot_of s i))
+unfolding slot_after
+slots-idle rules s i start m e ended k = rw (k.wrote, slot-idle rules (site_of s i) (slot_of s i) start m e ended refl k) refl
+
+after-idle : (rules : Rules) (s : State) (i : ℕ) (start : StepStart) (m : Made) (e : End) → m.left.end ≡ Some e → IsIdle (site_of s i) m → EndsOnly i s (after_made rules s i start m)
 unfolding after_made
-after-idle steps s i m k = record {
-  vcpus = rw (k.wrote, k.vcpu) (set-get_or s.vcpus i nobody);
-  names = refl;
-  depths = rw k.nesting (set-get_or s.depths i 0);
+after-idle rules s i start m e ended k = record {
+  slots = slots-idle rules s i start m e ended k;
   ram = k.ram;
   devices = k.devices;
   console = rw k.put refl;
-  counts = refl;
   clock = refl;
 }
 
-ended-by : (steps : ℕ) (s : State) (i : ℕ) (m : Made) → (after_made steps s i m).end ≡ end_after steps (counted s.counts i) m.left.end
+ended-by : (rules : Rules) (s : State) (i : ℕ) (start : StepStart) (m : Made) → (after_made rules s i start m).end ≡ end_after rules (slots_after rules s i start m) m.left.end
 unfolding after_made
-ended-by steps s i m = refl
+ended-by rules s i start m = refl
 
-pub ends_only : (steps : ℕ) (s : State) (i : ℕ) (e : End) → (step_of steps s i).end ≡ Some e → e ≢ Spent → EndsOnly i s (step_of steps s i)
-unfolding step_of
-ends_only steps s i e is other =
-    let m : Made = made_by (ready_at s i) s.clock (site_of s i) in
-    let own : m.left.end ≡ Some e = own-end steps (counted s.counts i) m.left.end e (sym (ended-by steps s i m) ∙ is) other in
-    after-idle steps s i m (made-idle (ready_at s i) s.clock (site_of s i) e own)
+pub ends_only : EndsChangeNothing
+ends_only rules s i start e is other =
+    let m : Made = made_by start s.clock (site_of s i) in
+    let own : m.left.end ≡ Some e = own-end rules (slots_after rules s i start m) m.left.end e (sym (ended-by rules s i start m) ∙ is) other in
+    after-idle rules s i start m e own (made-idle start s.clock (site_of s i) e own)

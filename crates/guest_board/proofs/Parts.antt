@@ -1,12 +1,12 @@
 -- What is placed before the run: ranges of text cut from their bytes, a part in two pieces, and the parts from a number on.
 use Rattle.std.proofs.Common.{◌≡◌, ℕ, zero, suc, ◌+◌, ◌-◌, ◌<◌, ◌≤◌, Bool, true, false, List, [], ◌∷◌, ◌++◌, length, take, drop, get_or, replicate, refl, sym, ap, subst, ◌∙◌, arith, append_assoc, length-append}
-use Rattle.std.specs.Prelude.{◌||◌}
+use Rattle.std.specs.Prelude.{◌||◌, nat_lt}
 use Rattle.std.proofs.lemmas.Bool.Decides.{nat_tests}
 use Rattle.std.proofs.lemmas.Grind.{common_steps}
 use Rattle.fc_numbers.specs.declared.places.Span.{Span}
 use Rattle.fc_numbers.specs.declared.places.TheConstants.{RAM_START}
 use Rattle.fc_numbers.specs.declared.spans.TheConstants.{TEXT_MOST}
-use Rattle.fc_numbers.specs.Spans.{AreRangesFrom, holds, in_text, offset_in, text_size}
+use Rattle.fc_numbers.specs.Spans.{AreRangesFrom, holds, in_text, offset_in, place_in, size_of, text_size}
 use Rattle.fc_numbers.proofs.TextLaws.{offset_below}
 use Rattle.guest_input.specs.declared.image.Image.{Image}
 use Rattle.guest_input.specs.Accepted.{IsPartOf, AllParts, PartsEndBy}
@@ -116,9 +116,9 @@ lie_below low end (s ∷ ss) above ranges high =
 pub placed_size : (ram : Ram) (at : ℕ) (part : List ℕ) → RAM_START ≤ at → at + length part ≤ RAM_START + length ram.bytes → length (placed ram at part).bytes ≡ length ram.bytes
 placed_size ram at part low high = length-placed ram at part low high
 
--- text has so few halfwords that 32 bits hold their numbers
-pub few_halves : (text : List Span) (place : ℕ) → AreRangesFrom RAM_START text → text_size text ≤ TEXT_MOST → in_text text place ≡ true → offset_in text place < 4194304
-few_halves text place ranges few inside =
+-- a byte of text has its offset below the most bytes of text
+pub few_bytes : (text : List Span) (place : ℕ) → AreRangesFrom RAM_START text → text_size text ≤ TEXT_MOST → in_text text place ≡ true → offset_in text place < TEXT_MOST
+few_bytes text place ranges few inside =
     let below = offset_below text RAM_START place ranges inside in
     omega (arith, below, few)
 
@@ -131,3 +131,17 @@ first_is image bytes blank text whole copy spans flat zeros copied places conten
     let start : blank ≡ zero_ram bytes (text_of image) = zeros ∙ ap (λ (ss : List Span). zero_ram bytes ss) copied in
     parts
     ∙ ap (λ (r : Ram). with_parts r image.parts) (ranges ∙ ap (λ (r : Ram). with_parts r (text_parts (cut spans flat))) start ∙ ap (λ (rs : List Range). with_parts (zero_ram bytes (text_of image)) (text_parts rs)) again)
+
+-- past the end of text the place is 0
+pub place_past : (text : List Span) (offset : ℕ) → text_size text ≤ offset → place_in text offset ≡ 0
+place_past [] offset past = refl
+place_past (s ∷ ss) offset past =
+    let here : nat_lt offset (size_of s) ≡ false = grind (arith, nat_tests, past) in
+    let rest : text_size ss ≤ offset - size_of s = omega (arith, past) in
+    rw here (place_past ss (offset - size_of s) rest)
+
+-- the first of the ranges have no more bytes than all
+pub front_size : (n : ℕ) (text : List Span) → text_size (take n text) ≤ text_size text
+front_size zero text = omega arith
+front_size (suc n) [] = omega arith
+front_size (suc n) (s ∷ ss) = omega (arith, front_size n ss)

@@ -13,14 +13,14 @@ use Rattle.rv_csr.specs.Csr.{is_set}
 use Rattle.rv_step.specs.declared.vcpu.Vcpu.{Vcpu}
 use Rattle.rv_step.specs.declared.resolve.Resolved.TheVariants as place
 use Rattle.rv_step.specs.Site.{resolved, resolve_walked}
-use Rattle.guest_board.specs.declared.fetch.Half.{Half}
-use Rattle.guest_board.specs.declared.fetch.Half.TheVariants as half
+use Rattle.guest_board.specs.declared.fetch.HalfPlace.{HalfPlace}
+use Rattle.guest_board.specs.declared.fetch.HalfPlace.TheVariants as half
 use Rattle.guest_board.specs.declared.fetch.Fetched.{Fetched}
 use Rattle.guest_board.specs.declared.fetch.Fetched.TheVariants.{Short, Long, Faults, Stops}
 use Rattle.guest_board.specs.Fetch.{half_by, half_place, half_at, outside_text, with_first, with_second, second_place, is_split, fetched, text_place, with_halves}
 
 -- a halfword is found in text exactly where it says so
-abbrev pub HalfIs : Ram → Half → Type 0
+abbrev pub HalfIs : Ram → HalfPlace → Type 0
 HalfIs ram (half.In text p) = is_text ram p ≡ text
 HalfIs ram (half.Faults cause tval) = Unit {0}
 HalfIs ram (half.Stops stop) = Unit {0}
@@ -81,7 +81,7 @@ long-by : (ram : Ram) (text text2 : Bool) (p q : ℕ) (b : Bool) → is_split te
 long-by ram text text2 p q true s e e2 w = tt
 long-by ram text text2 p q false s e e2 w = record { text_is = e; first = refl; wide = w; second = split-second ram text text2 p q e2 s }
 
-second-is : (ram : Ram) (text : Bool) (p : ℕ) (h : Half) → is_text ram p ≡ text → HalfIs ram h → half_at ram p % 4 ≡ 3 → HalvesAre ram (with_second ram text p h)
+second-is : (ram : Ram) (text : Bool) (p : ℕ) (h : HalfPlace) → is_text ram p ≡ text → HalfIs ram h → half_at ram p % 4 ≡ 3 → HalvesAre ram (with_second ram text p h)
 second-is ram text p (half.Faults cause tval) e e2 w = tt
 second-is ram text p (half.Stops stop) e e2 w = tt
 second-is ram text p (half.In text2 q) e e2 w = long-by ram text text2 p q (is_split text p text2 q) refl e e2 w
@@ -91,7 +91,7 @@ length-is : (v : Vcpu) (ram : Ram) (text : Bool) (p : ℕ) (b : Bool) → (half_
 length-is v ram text p true w e = second-is ram text p (second_place v ram) e (half-is v ram ((v.pc + 2) % 2 ^ 64)) (grind (arith, nat_tests, w))
 length-is v ram text p false w e = record { text_is = e; first = refl }
 
-first-is : (v : Vcpu) (ram : Ram) (h : Half) → HalfIs ram h → HalvesAre ram (with_first v ram h)
+first-is : (v : Vcpu) (ram : Ram) (h : HalfPlace) → HalfIs ram h → HalvesAre ram (with_first v ram h)
 first-is v ram (half.Faults cause tval) e = tt
 first-is v ram (half.Stops stop) e = tt
 first-is v ram (half.In text p) e = length-is v ram text p (half_at ram p % 4 == 3) refl e

@@ -1,8 +1,8 @@
 -- A board as contracts see it, its full step, and a run as a fold of full steps.
 -- The rule: the clock counts steps; a vCPU may step while the run has not ended and it has steps left.
-use Rattle.std.specs.Prelude.{ℕ, ◌+◌, ◌-◌, ◌%◌, ◌==◌, Bool, ◌&&◌, nat_lt, nat_eq, is_none, if◌then◌else◌, Option, Some, None, List, [], ◌∷◌, ◌++◌, length, slice_index, slice_index_or, slice_set, count_by}
-use Rattle.std.proofs.Common.{zero, suc}
-use Rattle.fc_numbers.specs.Numbers.{zero_regs}
+use Rattle.std.specs.Prelude.{ℕ, ◌+◌, ◌-◌, ◌%◌, ◌==◌, Bool, true, false, ◌&&◌, nat_lt, nat_le, nat_eq, is_none, if◌then◌else◌, Option, Some, None, List, [], ◌∷◌, ◌++◌, length, map, slice_index_or, slice_set}
+use Rattle.std.specs.List.{list_all}
+use Rattle.fc_numbers.specs.Numbers.{zero_regs, get_reg}
 use Rattle.fc_numbers.specs.declared.machine.End.{End}
 use Rattle.fc_numbers.specs.declared.machine.End.TheVariants.{Spent}
 use Rattle.fc_numbers.specs.declared.machine.Mode.TheVariants.{Vs}
@@ -11,20 +11,22 @@ use Rattle.device_feed.specs.Devices.{Devices}
 use Rattle.rv_csr.specs.Csr.{fresh}
 use Rattle.rv_step.specs.declared.vcpu.Vcpu.{Vcpu}
 use Rattle.rv_step.specs.Site.{Site}
+use Rattle.switch_hook.specs.Hook.{app_name_of}
+use Rattle.guest_board.specs.declared.rules.Rules.{Rules}
+use Rattle.guest_board.specs.declared.slot.Slot.{Slot}
 use Rattle.guest_board.specs.declared.board.Full.{Full}
 use Rattle.guest_board.specs.declared.board.Full.TheVariants.{Stepped, Over}
 use Rattle.guest_board.specs.declared.step.Nesting.{Nesting}
 use Rattle.guest_board.specs.declared.step.Nesting.TheVariants.{Stays, Interrupts, Traps, Returns}
-use Rattle.guest_board.specs.declared.step.Ready.{Ready}
-use Rattle.guest_board.specs.Step.{Made, made_by, ready_of, place_of}
+use Rattle.guest_board.specs.declared.step.StepOutcome.{StepOutcome}
+use Rattle.guest_board.specs.declared.step.StepStart.{StepStart}
+use Rattle.guest_board.specs.Made.{Made}
+use Rattle.guest_board.specs.Step.{made_by, step_start, place_of}
 
--- A state of the machine. Per vCPU: its registers, pc, mode, control registers and reservation; the steps it made;
--- its app name, or none; its depth of traps.
+-- A state of the machine: the vCPUs, each with the steps it made, its app name, or none, and its depth of traps; the
+-- memory, the devices and what the guest wrote; the steps of all, and the end.
 pub record State : Type 0 where
-  pub vcpus : List Vcpu
-  pub counts : List ℕ
-  pub names : List (Option (List ℕ))
-  pub depths : List ℕ
+  pub slots : List Slot
   pub ram : Ram
   pub devices : Devices
   pub console : List ℕ
@@ -34,49 +36,58 @@ pub record State : Type 0 where
 abbrev pub nobody : Vcpu
 nobody = record { regs = zero_regs; pc = 0; mode = Vs; csr = fresh; reserved = None; number = 0 }
 
+abbrev pub no_slot : Slot
+no_slot = record { vcpu = nobody; made = 0; name = None; depth = 0 }
+
+abbrev pub slot_of : State → ℕ → Slot
+slot_of s i = slice_index_or s.slots i no_slot
+
 abbrev pub vcpu_of : State → ℕ → Vcpu
-vcpu_of s i = slice_index_or s.vcpus i nobody
+vcpu_of s i = (slot_of s i).vcpu
+
+abbrev pub made_of : State → ℕ → ℕ
+made_of s i = (slot_of s i).made
 
 abbrev pub name_of : State → ℕ → Option (List ℕ)
-name_of s i = slice_index_or s.names i None
+name_of s i = (slot_of s i).name
+
+abbrev pub depth_of : State → ℕ → ℕ
+depth_of s i = (slot_of s i).depth
 
 abbrev pub site_of : State → ℕ → Site
 site_of s i = record { vcpu = vcpu_of s i; ram = s.ram; devices = s.devices }
 
--- vCPU i may step, where each may make so many steps
-abbrev pub may : ℕ → State → ℕ → Bool
-may steps s i = nat_lt i (length s.vcpus) && is_none s.end && nat_lt (slice_index s.counts i) steps
+-- vCPU i may step: it is one of the vCPUs, the run has not ended, and it has steps left
+abbrev pub may : Rules → State → ℕ → Bool
+may rules s i = nat_lt i (length s.slots) && is_none s.end && nat_lt (made_of s i) rules.steps
 
 abbrev pub said : List ℕ → Option ℕ → List ℕ
 said console None = console
 said console (Some byte) = console ++ byte ∷ []
 
--- a reservation of an aligned word of 8 bytes, which another vCPU's write to a place in it breaks
+-- a reservation of a doubleword, which a write to a place in it breaks
 abbrev pub kept : Option ℕ → ℕ → Option ℕ
 kept None p = None
 kept (Some word) p = if word == p - p % 8 then None else Some word
 
-abbrev pub broken : Vcpu → ℕ → Vcpu
-broken v p = record v { reserved = kept v.reserved p }
+abbrev pub broken : ℕ → Slot → Slot
+broken p slot = record slot { vcpu = record slot.vcpu { reserved = kept slot.vcpu.reserved p } }
 
--- the vCPUs below k but for i, with what a write to p breaks
-unfoldable pub broken_below : ℕ → ℕ → ℕ → List Vcpu → List Vcpu
-broken_below i p zero vs = vs
-broken_below i p (suc k) vs =
-    if k == i then broken_below i p k vs
-    else slice_set (broken_below i p k vs) k (broken (slice_index_or (broken_below i p k vs) k nobody) p)
+abbrev pub released : Option ℕ → Slot → Slot
+released None slot = slot
+released (Some p) slot = broken p slot
 
-abbrev pub broken_by : Option ℕ → ℕ → List Vcpu → List Vcpu
-broken_by None i vs = vs
-broken_by (Some p) i vs = broken_below i p (length vs) vs
+abbrev pub broken_by : Option ℕ → List Slot → List Slot
+broken_by None slots = slots
+broken_by (Some p) slots = map (broken p) slots
 
--- whether nobody may step any more
-abbrev pub is_spent : ℕ → List ℕ → Bool
-is_spent steps ns = nat_eq (count_by (λ n. n == steps) ns) (length ns)
+-- no vCPU has steps left
+abbrev pub is_spent : Rules → List Slot → Bool
+is_spent rules slots = list_all (λ slot. nat_le rules.steps slot.made) slots
 
-abbrev pub end_after : ℕ → List ℕ → Option End → Option End
-end_after steps counts (Some e) = Some e
-end_after steps counts None = if is_spent steps counts then Some Spent else None
+abbrev pub end_after : Rules → List Slot → Option End → Option End
+end_after rules slots (Some e) = Some e
+end_after rules slots None = if is_spent rules slots then Some Spent else None
 
 -- An interrupt adds 1 to the depth, any other trap adds 1 where the depth is greater than 0, and SRET takes 1 away.
 abbrev pub deeper : Nesting → ℕ → ℕ
@@ -85,60 +96,84 @@ deeper Interrupts depth = depth + 1
 deeper Traps depth = if depth == 0 then 0 else depth + 1
 deeper Returns depth = depth - 1
 
-abbrev pub counted : List ℕ → ℕ → List ℕ
-counted counts i = slice_set counts i (slice_index counts i + 1)
+abbrev pub is_same_place : Option ℕ → Option ℕ → Bool
+is_same_place None hook = false
+is_same_place (Some place) None = false
+is_same_place (Some place) (Some hook) = nat_eq place hook
 
-unfoldable pub after_made : ℕ → State → ℕ → Made → State
-after_made steps s i m = record {
-  vcpus = broken_by m.left.wrote i (slice_set s.vcpus i m.vcpu);
-  counts = counted s.counts i;
-  names = s.names;
-  depths = slice_set s.depths i (deeper m.left.nesting (slice_index s.depths i));
+-- a hook step fetches the hook's place, and neither stops the run nor shuts the machine down
+abbrev pub is_hook : Rules → StepStart → StepOutcome → Bool
+is_hook rules start left = is_same_place (place_of start) rules.hook && is_none left.end
+
+-- the name that the hook reads: its argument a1 is register 11
+abbrev pub hook_name : Rules → Site → Option (List ℕ)
+hook_name rules s = app_name_of s.ram s.vcpu.csr (get_reg s.vcpu.regs 11) rules.name_at
+
+-- After a hook step the vCPU has the name that the hook read, or none, and depth 0. Any other step keeps the name.
+abbrev pub name_after : Bool → Rules → Site → Option (List ℕ) → Option (List ℕ)
+name_after true rules s name = hook_name rules s
+name_after false rules s name = name
+
+abbrev pub depth_after : Bool → Nesting → ℕ → ℕ
+depth_after true nesting depth = 0
+depth_after false nesting depth = deeper nesting depth
+
+-- the slot of a vCPU after its step, where this site is what the step began in
+unfoldable pub slot_after : Rules → Site → Slot → StepStart → Made → Slot
+slot_after rules s slot start m = record {
+  vcpu = m.vcpu;
+  made = slot.made + 1;
+  name = name_after (is_hook rules start m.left) rules s slot.name;
+  depth = depth_after (is_hook rules start m.left) m.left.nesting slot.depth;
+}
+
+-- the slots after a step of vCPU i: its write breaks the reservations of the others
+abbrev pub slots_after : Rules → State → ℕ → StepStart → Made → List Slot
+slots_after rules s i start m = slice_set (broken_by m.left.wrote s.slots) i (slot_after rules (site_of s i) (slot_of s i) start m)
+
+unfoldable pub after_made : Rules → State → ℕ → StepStart → Made → State
+after_made rules s i start m = record {
+  slots = slots_after rules s i start m;
   ram = m.ram;
   devices = m.devices;
   console = said s.console m.put;
   clock = s.clock + 1;
-  end = end_after steps (counted s.counts i) m.left.end;
+  end = end_after rules (slots_after rules s i start m) m.left.end;
 }
 
 -- what the next step of vCPU i begins with
-abbrev pub ready_at : State → ℕ → Ready
-ready_at s i = ready_of (site_of s i) s.clock
+abbrev pub next_start : State → ℕ → StepStart
+next_start s i = step_start (site_of s i) s.clock
 
 -- the state after a step of vCPU i that begins so
-abbrev pub stepped_by : ℕ → State → ℕ → Ready → State
-stepped_by steps s i ready = after_made steps s i (made_by ready s.clock (site_of s i))
+abbrev pub stepped_by : Rules → State → ℕ → StepStart → State
+stepped_by rules s i start = after_made rules s i start (made_by start s.clock (site_of s i))
 
 -- the state after a step of vCPU i
-unfoldable pub step_of : ℕ → State → ℕ → State
-step_of steps s i = stepped_by steps s i (ready_at s i)
+unfoldable pub step_of : Rules → State → ℕ → State
+step_of rules s i = stepped_by rules s i (next_start s i)
 
 -- the place in text that the next step of vCPU i fetches
 unfoldable pub next_of : State → ℕ → Option ℕ
-next_of s i = place_of (ready_at s i)
+next_of s i = place_of (next_start s i)
 
 -- the run from a state by a schedule
-abbrev pub run_from : ℕ → State → List ℕ → State
-run_from steps s [] = s
-run_from steps s (i ∷ schedule) = run_from steps (step_of steps s i) schedule
+abbrev pub run_from : Rules → State → List ℕ → State
+run_from rules s [] = s
+run_from rules s (i ∷ schedule) = run_from rules (step_of rules s i) schedule
 
--- a board: the most steps of each vCPU, the state, and the schedule of the steps so far
+-- a board: the rules of the run, the state, and the schedule of the steps so far
 pub record Seat : Type 0 where
-  pub steps : ℕ
+  pub rules : Rules
   pub state : State
   pub schedule : List ℕ
 
 -- the board after vCPU i made a step to this state
 abbrev pub moved : Seat → ℕ → State → Seat
-moved b i next = record { steps = b.steps; state = next; schedule = b.schedule ++ i ∷ [] }
+moved b i next = record { rules = b.rules; state = next; schedule = b.schedule ++ i ∷ [] }
 
 abbrev pub full_after : Seat → ℕ → Seat
-full_after b i = if may b.steps b.state i then moved b i (step_of b.steps b.state i) else b
+full_after b i = if may b.rules b.state i then moved b i (step_of b.rules b.state i) else b
 
 abbrev pub full_answer : Seat → ℕ → Full
-full_answer b i = if may b.steps b.state i then Stepped (next_of b.state i) else Over
-
--- the steps that are left to all
-unfoldable pub left_total : ℕ → List ℕ → ℕ
-left_total steps [] = 0
-left_total steps (n ∷ ns) = (steps - n) + left_total steps ns
+full_answer b i = if may b.rules b.state i then Stepped (next_of b.state i) else Over

@@ -12,18 +12,18 @@ use Rattle.rv_step.specs.declared.vcpu.Vcpu.{Vcpu}
 use Rattle.rv_step.specs.declared.resolve.Resolved as found
 use Rattle.rv_step.specs.declared.resolve.Resolved.TheVariants as place
 use Rattle.rv_step.specs.Site.{resolved}
-use Rattle.guest_board.specs.declared.fetch.Half.{Half}
-use Rattle.guest_board.specs.declared.fetch.Half.TheVariants as half
+use Rattle.guest_board.specs.declared.fetch.HalfPlace.{HalfPlace}
+use Rattle.guest_board.specs.declared.fetch.HalfPlace.TheVariants as half
 use Rattle.guest_board.specs.declared.fetch.Fetched.{Fetched}
 use Rattle.guest_board.specs.declared.fetch.Fetched.TheVariants.{Short, Long, Faults, Stops}
 use Rattle.rv_step.specs.declared.causes.TheConstants.{FETCH_PAGE_FAULT, FETCH_ACCESS_FAULT}
 
 -- a place in RAM outside text: no kernel code is fetched there
-abbrev pub outside_text : Mode → ℕ → Half
+abbrev pub outside_text : Mode → ℕ → HalfPlace
 outside_text Vs p = half.Stops KernelOutsideText
 outside_text Vu p = half.In false p
 
-abbrev pub half_by : Mode → ℕ → found.Resolved → Half
+abbrev pub half_by : Mode → ℕ → found.Resolved → HalfPlace
 half_by mode va (place.Text p) = half.In true p
 half_by mode va (place.Ram p) = outside_text mode p
 half_by mode va place.PageFault = half.Faults FETCH_PAGE_FAULT va
@@ -31,7 +31,7 @@ half_by mode va place.AccessFault = half.Faults FETCH_ACCESS_FAULT va
 half_by mode va place.TableInText = half.Stops TableInText
 
 -- where the halfword at an address is fetched from
-unfoldable pub half_place : Vcpu → Ram → ℕ → Half
+unfoldable pub half_place : Vcpu → Ram → ℕ → HalfPlace
 half_place v ram va = half_by v.mode va (resolved v ram Fetch va)
 
 -- the halfword of memory that holds a place
@@ -45,16 +45,16 @@ is_split true p false q = true
 is_split false p true q = true
 is_split false p false q = false
 
-abbrev pub with_second : Ram → Bool → ℕ → Half → Fetched
+abbrev pub with_second : Ram → Bool → ℕ → HalfPlace → Fetched
 with_second ram text p (half.Faults cause tval) = Faults cause tval
 with_second ram text p (half.Stops stop) = Stops stop
 with_second ram text p (half.In text2 q) = if is_split text p text2 q then Stops TextSplit else Long text p (half_at ram p) (half_at ram q)
 
-abbrev pub second_place : Vcpu → Ram → Half
+abbrev pub second_place : Vcpu → Ram → HalfPlace
 second_place v ram = half_place v ram ((v.pc + 2) % 2 ^ 64)
 
 -- low bits 11 of the first halfword mean two halfwords
-abbrev pub with_first : Vcpu → Ram → Half → Fetched
+abbrev pub with_first : Vcpu → Ram → HalfPlace → Fetched
 with_first v ram (half.Faults cause tval) = Faults cause tval
 with_first v ram (half.Stops stop) = Stops stop
 with_first v ram (half.In text p) =

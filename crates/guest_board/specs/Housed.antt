@@ -1,16 +1,15 @@
 -- How a board keeps its state.
-use Rattle.std.specs.Prelude.{◌≡◌, ℕ, ◌+◌, ◌≤◌, length, slice_index, vec_len, vec_capacity}
+use Rattle.std.specs.Prelude.{◌≡◌, All, ℕ, ◌+◌, ◌-◌, ◌≤◌, List, [], ◌∷◌, length, slice_index, slice_index_or, vec_len, vec_capacity}
+use Rattle.sv39_walk.specs.Cache.{Fits}
+use Rattle.guest_board.specs.declared.slot.Slot.{Slot}
 use Rattle.guest_board.specs.declared.board.Board.TheInside.{Inside}
-use Rattle.guest_board.specs.Board.{Seat, left_total}
+use Rattle.guest_board.specs.Board.{Seat, no_slot}
 
 abbrev pub seat_of : Inside → Seat
 seat_of b = record {
-  steps = b.steps;
+  rules = b.rules;
   state = record {
-    vcpus = b.vcpus.items;
-    counts = b.counts.items;
-    names = b.names.items;
-    depths = b.depths.items;
+    slots = b.slots.items;
     ram = b.ram;
     devices = b.feed;
     console = b.console.items;
@@ -20,15 +19,19 @@ seat_of b = record {
   schedule = b.schedule.items;
 }
 
--- Each vCPU has a count, a name and a depth; schedule and console have room for every step that is left, of which
--- there are few enough for 32 bits; no depth and no stamp of a page is above the clock.
+-- the steps that are left to all
+unfoldable pub left_total : ℕ → List Slot → ℕ
+left_total steps [] = 0
+left_total steps (slot ∷ slots) = (steps - slot.made) + left_total steps slots
+
+-- Schedule and console have room for every step that is left, of which there are few enough for 32 bits; no depth and no
+-- stamp of a page is above the clock. Each vCPU has a cache of translations, which fits the memory.
 pub record IsHoused (b : Inside) : Type 0 where
-  pub eight : length b.vcpus.items ≤ 8
-  pub same_counts : length b.counts.items ≡ length b.vcpus.items
-  pub same_names : length b.names.items ≡ length b.vcpus.items
-  pub same_depths : length b.depths.items ≡ length b.vcpus.items
-  pub few : vec_len b.schedule + left_total b.steps b.counts.items ≤ 16777216
-  pub schedule_room : vec_len b.schedule + left_total b.steps b.counts.items ≤ vec_capacity b.schedule
-  pub console_room : vec_len b.console + left_total b.steps b.counts.items ≤ vec_capacity b.console
-  pub depths : (k : ℕ) → slice_index b.depths.items k ≤ vec_len b.schedule
+  pub eight : length b.slots.items ≤ 8
+  pub few : vec_len b.schedule + left_total b.rules.steps b.slots.items ≤ 16777216
+  pub schedule_room : vec_len b.schedule + left_total b.rules.steps b.slots.items ≤ vec_capacity b.schedule
+  pub console_room : vec_len b.console + left_total b.rules.steps b.slots.items ≤ vec_capacity b.console
+  pub depths : (k : ℕ) → (slice_index_or b.slots.items k no_slot).depth ≤ vec_len b.schedule
   pub stamps : (k : ℕ) → slice_index b.ram.stamps k ≤ vec_len b.schedule
+  pub caches : length b.caches.items ≡ length b.slots.items
+  pub fit : All (Fits b.ram) b.caches.items

@@ -1,5 +1,6 @@
 pub mod Fetch
 pub mod FetchFacts
+pub mod Made
 pub mod Step
 pub mod Board
 pub mod Seen
@@ -8,4 +9,3 @@ pub mod First
 pub mod OpenFacts
 pub mod Housed
 pub mod Laws
-pub mod Counted

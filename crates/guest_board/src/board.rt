@@ -4,17 +4,24 @@ ghost use Rattle.std.specs.Prelude.{◌≡◌, ◌+◌, ◌-◌, ◌%◌, ◌∷
 ghost use Rattle.gstage.specs.Stage.{IsFor};
 ghost use Rattle.guest_ram.specs.Ram.{Ram, CanStore};
 ghost use Rattle.device_feed.specs.Devices.{Devices};
+ghost use Rattle.sv39_walk.specs.Cache.{Fits, KeepsFits};
 ghost use Rattle.rv_step.specs.Site.{Site};
 ghost use Rattle.rv_step.specs.Kept.{KeepsText};
-ghost use Rattle.guest_board.specs.Step.{made_by, ready_of, place_of};
-ghost use Rattle.guest_board.specs.Board.{State, may, nobody, vcpu_of, name_of, kept, broken, broken_below, broken_by, is_spent, end_after, said, deeper, counted, full_after, full_answer, left_total, moved, stepped_by, step_of, next_of, ready_at};
+ghost use Rattle.fc_numbers.specs.Numbers.{get_reg};
+ghost use Rattle.switch_hook.specs.Hook.{app_name_of};
+ghost use Rattle.guest_board.specs.Step.{made_by, place_of};
+ghost use Rattle.guest_board.specs.Housed.{left_total};
+ghost use Rattle.guest_board.specs.Board.{broken_by, depth_of, full_after, full_answer, is_same_place, made_of, may, moved, name_of, next_of, next_start, no_slot, said, slot_after, step_of, stepped_by, vcpu_of};
 ghost use Rattle.guest_input.specs.Accepted.{IsImage, IsSetupFor};
+ghost use Rattle.guest_input.specs.declared.limits.TheConstants.{STEPS_MOST};
 ghost use Rattle.guest_board.specs.First.{first_seat};
 ghost use Rattle.guest_board.specs.Seen.{verdict_of, after_verdict, seen_by, trapped_at};
 
-use crate::open::{start_names, start_ram, start_vcpus, zeros};
+use crate::open::{new_caches, start_ram, start_slots};
+use crate::rules::{Rules, rules_of};
 use crate::seen::{Seen, Verdict, Windows, judge};
-use crate::step::{Left, Nesting, Ready, begin, carry_out, place_fetched};
+use crate::slot::{Slot, break_others, deepen, end_by};
+use crate::step::{StepOutcome, StepStart, begin, carry_out, place_fetched};
 use chain_log::chain::chain_of;
 use chain_log::entry::Trapped;
 use device_feed::feed::Feed;
@@ -30,20 +37,21 @@ use guest_ram::GuestRam;
 use rv_step::vcpu::Vcpu;
 use std::alloc::Global;
 use std::marker::Model;
+use sv39_walk::cache::WalkCache;
+use switch_hook::app_name;
 
-/// The vCPUs, the memory, the devices, the console and the schedule of a run. In contracts it is the most steps of a
-/// vCPU, the state of the machine, and the schedule of the steps so far.
+/// The vCPUs, the memory, the devices, the console and the schedule of a run. In contracts it is the rules of the run, the
+/// state of the machine, and the schedule of the steps so far.
 #[derive(Drop)]
 pub struct Board {
-    pub(crate) vcpus: Vec<Vcpu>,
-    pub(crate) counts: Vec<u32>,
-    pub(crate) names: Vec<Option<Name>>,
-    pub(crate) depths: Vec<u32>,
+    pub(crate) rules: Rules,
+    pub(crate) slots: Vec<Slot>,
     pub(crate) ram: GuestRam,
+    /// For each vCPU the translations that it made last.
+    pub(crate) caches: Vec<WalkCache>,
     pub(crate) feed: Feed,
     pub(crate) console: Vec<u8>,
     pub(crate) schedule: Vec<VcpuNo>,
-    pub(crate) steps: u32,
     pub(crate) end: Option<End>,
 }
 
@@ -64,64 +72,6 @@ impl Model for Board {
 pub enum Full {
     Stepped(Option<Gpa>),
     Over,
-}
-
-fn released(word: Option<Gpa>, place: Gpa) -> Option<Gpa>
-    ensures { result ≡ kept word place }
-{
-    match word {
-        None => None,
-        Some(word) => if word.0 == place.0 - place.0 % 8 {
-            None
-        } else {
-            Some(word)
-        },
-    }
-}
-
-fn release(v: &mut Vcpu, place: Gpa)
-    ensures { v.new ≡ broken v.old place }
-{
-    v.reserved = released(v.reserved, place);
-}
-
-#[tactic(auto, unfolding(crate::specs::Board::broken_below))]
-fn break_others(vcpus: &mut [Vcpu], i: usize, place: Gpa)
-    ensures { vcpus.new ≡ broken_below i place (length vcpus.old) vcpus.old }
-{
-    for k in 0..vcpus.len() {
-        if k != i {
-            release(&mut vcpus[k], place);
-        }
-    }
-}
-
-fn break_by(vcpus: &mut [Vcpu], i: usize, wrote: Option<Gpa>)
-    ensures { vcpus.new ≡ broken_by wrote i vcpus.old }
-{
-    match wrote {
-        None => {}
-        Some(place) => break_others(vcpus, i, place),
-    }
-}
-
-fn all_spent(steps: u32, counts: &[u32]) -> bool
-    ensures { result ≡ is_spent steps counts.now }
-{
-    counts.iter().filter(|n| **n == steps).count() == counts.len()
-}
-
-fn end_of(steps: u32, counts: &[u32], end: Option<End>) -> Option<End>
-    ensures { result ≡ end_after steps counts.now end }
-{
-    match end {
-        Some(end) => Some(end),
-        None => if all_spent(steps, counts) {
-            Some(End::Spent)
-        } else {
-            None
-        },
-    }
 }
 
 fn flat(ram: &GuestRam) -> Flat
@@ -169,106 +119,140 @@ fn say(console: &mut Vec<u8>, put: Option<u8>)
     }
 }
 
-#[tactic(auto, using(crate::proofs::LeftOver::one_less))]
-fn count_up(counts: &mut [u32], i: usize, steps: u32)
-    requires inside { i < length counts.old }
-    requires below { slice_index counts.old i < steps }
-    ensures value { counts.new ≡ counted counts.old i }
-    ensures left { left_total steps counts.new + 1 ≡ left_total steps counts.old }
+/// Whether a step that begins so fetches the hook's place.
+fn is_at_hook(rules: &Rules, start: &StepStart) -> bool
+    ensures { result ≡ is_same_place (place_of start.now) rules.now.hook }
 {
-    counts[i] += 1;
-}
-
-fn deepen(nesting: Nesting, depth: u32) -> u32
-    requires { depth < 2 ^ 32 - 1 }
-    ensures { result ≡ deeper nesting depth }
-{
-    match nesting {
-        Nesting::Stays => depth,
-        Nesting::Interrupts => depth + 1,
-        Nesting::Traps => if depth == 0 { 0 } else { depth + 1 },
-        Nesting::Returns => depth.saturating_sub(1),
+    match (place_fetched(start), rules.hook) {
+        (Some(place), Some(hook)) => place.0 == hook.0,
+        _ => false,
     }
 }
 
-fn nest(depths: &mut [u32], i: usize, nesting: Nesting, clock: u64)
-    requires inside { i < length depths.old }
-    requires low { clock < 2 ^ 32 - 1 }
-    requires below { (k : ℕ) → slice_index depths.old k ≤ clock }
-    ensures value { depths.new ≡ slice_set depths.old i (deeper nesting (slice_index depths.old i)) }
-    ensures below { (k : ℕ) → slice_index depths.new k ≤ clock + 1 }
+/// The name that the hook reads.
+fn read_name(rules: &Rules, vcpu: &Vcpu, ram: &GuestRam) -> Option<Name>
+    ensures { result ≡ app_name_of ram.now vcpu.now.csr (get_reg vcpu.now.regs 11) rules.now.name_at }
 {
-    depths[i] = deepen(nesting, depths[i]);
+    app_name(ram, &vcpu.csr, vcpu.regs.get(11), rules.name_at)
 }
 
-fn carry_at<S: SecondStage>(
-    ready: Ready,
-    vcpus: &mut [Vcpu],
-    i: usize,
+/// The step of a vCPU that begins so, and what is counted beside it.
+#[tactic(auto, unfolding(crate::specs::Board::slot_after))]
+fn carry_slot<S: SecondStage>(
+    rules: &Rules,
+    start: StepStart,
+    slot: &mut Slot,
     ram: &mut GuestRam,
+    cache: &mut WalkCache,
     feed: &mut Feed,
     stage: &S,
     put: &mut Option<u8>,
     clock: u64,
-) -> Left
-    requires inside { i < length vcpus.old }
+) -> StepOutcome
     requires stage { IsFor (S.text stage.now) (S.ram stage.now) ram.old }
     requires stamps { CanStore ram.old }
-    ensures vcpus { let s : Site = record { vcpu = slice_index_or vcpus.old i nobody; ram = ram.old; devices = feed.old } in vcpus.new ≡ slice_set vcpus.old i (made_by ready clock s).vcpu }
-    ensures ram { let s : Site = record { vcpu = slice_index_or vcpus.old i nobody; ram = ram.old; devices = feed.old } in ram.new ≡ (made_by ready clock s).ram }
-    ensures devices { let s : Site = record { vcpu = slice_index_or vcpus.old i nobody; ram = ram.old; devices = feed.old } in feed.new ≡ (made_by ready clock s).devices }
-    ensures put { let s : Site = record { vcpu = slice_index_or vcpus.old i nobody; ram = ram.old; devices = feed.old } in put.new ≡ (made_by ready clock s).put }
-    ensures left { let s : Site = record { vcpu = slice_index_or vcpus.old i nobody; ram = ram.old; devices = feed.old } in result ≡ (made_by ready clock s).left }
+    requires fits { Fits ram.old cache.old }
+    requires made { slot.old.made < 2 ^ 32 - 1 }
+    requires depth { slot.old.depth < 2 ^ 32 - 1 }
+    ensures slot { let s : Site = record { vcpu = slot.old.vcpu; ram = ram.old; devices = feed.old } in slot.new ≡ slot_after rules.now s slot.old start (made_by start clock s) }
+    ensures ram { let s : Site = record { vcpu = slot.old.vcpu; ram = ram.old; devices = feed.old } in ram.new ≡ (made_by start clock s).ram }
+    ensures devices { let s : Site = record { vcpu = slot.old.vcpu; ram = ram.old; devices = feed.old } in feed.new ≡ (made_by start clock s).devices }
+    ensures put { let s : Site = record { vcpu = slot.old.vcpu; ram = ram.old; devices = feed.old } in put.new ≡ (made_by start clock s).put }
+    ensures left { let s : Site = record { vcpu = slot.old.vcpu; ram = ram.old; devices = feed.old } in result ≡ (made_by start clock s).left }
     ensures keeps { KeepsText ram.old ram.new }
+    ensures fits { Fits ram.new cache.new }
+    ensures others { KeepsFits ram.old ram.new }
 {
     // Memory is laid out lawfully, so a step keeps its text; the call says so.
     let _laid = ram.text();
-    carry_out(ready, &mut vcpus[i], ram, feed, stage, put, clock)
+    let at_hook = is_at_hook(rules, &start);
+    let met = if at_hook {
+        read_name(rules, &slot.vcpu, ram)
+    } else {
+        None
+    };
+    let left = carry_out(start, &mut slot.vcpu, ram, cache, feed, stage, put, clock);
+    slot.made += 1;
+    if at_hook && left.end.is_none() {
+        slot.name = met;
+        slot.depth = 0;
+    } else {
+        slot.depth = deepen(left.nesting, slot.depth);
+    }
+    left
 }
 
-fn ready_for<S: SecondStage>(
-    vcpus: &[Vcpu],
-    i: usize,
-    ram: &GuestRam,
-    feed: &Feed,
+/// The same in the slots of all, where it breaks the reservations that the others have of what it wrote.
+fn carry_at<S: SecondStage>(
+    rules: &Rules,
+    start: StepStart,
+    slots: &mut [Slot],
+    at: usize,
+    ram: &mut GuestRam,
+    cache: &mut WalkCache,
+    feed: &mut Feed,
     stage: &S,
+    put: &mut Option<u8>,
     clock: u64,
-) -> Ready
-    requires inside { i < length vcpus.now }
-    requires stage { IsFor (S.text stage.now) (S.ram stage.now) ram.now }
-    ensures { let s : Site = record { vcpu = slice_index_or vcpus.now i nobody; ram = ram.now; devices = feed.now } in result ≡ ready_of s clock }
+) -> StepOutcome
+    requires inside { at < length slots.old }
+    requires stage { IsFor (S.text stage.now) (S.ram stage.now) ram.old }
+    requires stamps { CanStore ram.old }
+    requires fits { Fits ram.old cache.old }
+    requires steps { (slice_index_or slots.old at no_slot).made < rules.now.steps }
+    requires depths { (k : ℕ) → (slice_index_or slots.old k no_slot).depth ≤ clock }
+    requires low { clock < 2 ^ 32 - 1 }
+    ensures slots { let old = slice_index_or slots.old at no_slot in let s : Site = record { vcpu = old.vcpu; ram = ram.old; devices = feed.old } in slots.new ≡ slice_set (broken_by (made_by start clock s).left.wrote slots.old) at (slot_after rules.now s old start (made_by start clock s)) }
+    ensures ram { let s : Site = record { vcpu = (slice_index_or slots.old at no_slot).vcpu; ram = ram.old; devices = feed.old } in ram.new ≡ (made_by start clock s).ram }
+    ensures devices { let s : Site = record { vcpu = (slice_index_or slots.old at no_slot).vcpu; ram = ram.old; devices = feed.old } in feed.new ≡ (made_by start clock s).devices }
+    ensures put { let s : Site = record { vcpu = (slice_index_or slots.old at no_slot).vcpu; ram = ram.old; devices = feed.old } in put.new ≡ (made_by start clock s).put }
+    ensures left { let s : Site = record { vcpu = (slice_index_or slots.old at no_slot).vcpu; ram = ram.old; devices = feed.old } in result ≡ (made_by start clock s).left }
+    ensures keeps { KeepsText ram.old ram.new }
+    ensures fits { Fits ram.new cache.new }
+    ensures others { KeepsFits ram.old ram.new }
+    ensures len { length slots.new ≡ length slots.old }
+    ensures one_less { left_total rules.now.steps slots.new + 1 ≡ left_total rules.now.steps slots.old }
+    ensures depths { (k : ℕ) → (slice_index_or slots.new k no_slot).depth ≤ clock + 1 }
 {
-    begin(&vcpus[i], ram, feed, stage, clock)
+    let left = carry_slot(
+        rules,
+        start,
+        &mut slots[at],
+        ram,
+        cache,
+        feed,
+        stage,
+        put,
+        clock,
+    );
+    break_others(slots, at, left.wrote);
+    left
 }
 
 impl Board {
     /// The board before the first step of a run of this image by this setup. Console and schedule take room for every
     /// step here, so that no step takes memory.
-    #[tactic(auto, unfolding(crate::specs::First::first_state), using(crate::proofs::Started::all_left, crate::proofs::Started::no_depth, crate::proofs::Started::no_stamp, crate::proofs::Started::few_vcpus))]
+    #[tactic(auto, unfolding(crate::specs::First::first_state), using(crate::proofs::Started::all_left, crate::proofs::Started::no_depth, crate::proofs::Started::no_stamp, crate::proofs::Started::few_slots))]
     pub fn open(alloc: Global, image: &Image, setup: &Setup) -> Result<Board, NoMemory>
         requires image { IsImage image.now }
         requires setup { IsSetupFor image.now setup.now }
         ensures { IfOk result (λ board. board ≡ first_seat image.now setup.now) }
     {
         let total = setup.vcpus as usize * setup.steps as usize;
-        let vcpus = start_vcpus(alloc, image.entry, setup.vcpus)?;
-        let counts = zeros(alloc, setup.vcpus)?;
-        let names = start_names(alloc, &setup.start, setup.vcpus)?;
-        let depths = zeros(alloc, setup.vcpus)?;
+        let slots = start_slots(alloc, image.entry, &setup.start, setup.vcpus)?;
         let ram = start_ram(alloc, image, setup)?;
         let feed = Feed::open(alloc, setup)?;
+        let caches = new_caches(alloc, setup.vcpus)?;
         let console = Vec::with_capacity(alloc, total)?;
         let schedule = Vec::with_capacity(alloc, total)?;
         Ok(Board {
-            vcpus,
-            counts,
-            names,
-            depths,
+            rules: rules_of(image, setup),
+            slots,
             ram,
+            caches,
             feed,
             console,
             schedule,
-            steps: setup.steps,
             end: None,
         })
     }
@@ -277,6 +261,7 @@ impl Board {
     pub fn clock(&self) -> u64
         ensures clock { result ≡ self.now.state.clock }
         ensures schedule { result ≡ length self.now.schedule }
+        ensures few { result ≤ STEPS_MOST }
     {
         self.schedule.len() as u64
     }
@@ -290,41 +275,41 @@ impl Board {
 
     /// How many vCPUs there are.
     pub fn vcpus(&self) -> u8
-        ensures { result ≡ length self.now.state.vcpus }
+        ensures { result ≡ length self.now.state.slots }
     {
-        self.vcpus.len() as u8
+        self.slots.len() as u8
     }
 
     /// How many steps the vCPU made.
     pub fn steps_of(&self, i: VcpuNo) -> u32
-        requires { i < length self.now.state.vcpus }
-        ensures { result ≡ slice_index self.now.state.counts i }
+        requires { i < length self.now.state.slots }
+        ensures { result ≡ made_of self.now.state i }
     {
-        self.counts[i.0 as usize]
+        self.slots[i.0 as usize].made
     }
 
     /// The app name of the vCPU, if it has one.
     pub fn name_of(&self, i: VcpuNo) -> Option<&Name>
-        requires { i < length self.now.state.vcpus }
+        requires { i < length self.now.state.slots }
         ensures { option_copied result ≡ name_of self.now.state i }
     {
-        self.names[i.0 as usize].as_ref()
+        self.slots[i.0 as usize].name.as_ref()
     }
 
     /// The depth of traps of the vCPU.
     pub fn depth_of(&self, i: VcpuNo) -> u32
-        requires { i < length self.now.state.vcpus }
-        ensures { result ≡ slice_index self.now.state.depths i }
+        requires { i < length self.now.state.slots }
+        ensures { result ≡ depth_of self.now.state i }
     {
-        self.depths[i.0 as usize]
+        self.slots[i.0 as usize].depth
     }
 
     /// The vCPU.
     pub fn vcpu(&self, i: VcpuNo) -> &Vcpu
-        requires { i < length self.now.state.vcpus }
+        requires { i < length self.now.state.slots }
         ensures { result.now ≡ vcpu_of self.now.state i }
     {
-        &self.vcpus[i.0 as usize]
+        &self.slots[i.0 as usize].vcpu
     }
 
     /// The memory.
@@ -357,62 +342,74 @@ impl Board {
 
     /// Whether the vCPU may step: the run has not ended, and it has steps left.
     pub fn may(&self, i: VcpuNo) -> bool
-        ensures answer { result ≡ may self.now.steps self.now.state i }
-        ensures counts { length self.now.state.counts ≡ length self.now.state.vcpus }
+        ensures { result ≡ may self.now.rules self.now.state i }
     {
         let at = i.0 as usize;
-        at < self.vcpus.len() && self.end.is_none() && self.counts[at] < self.steps
+        at < self.slots.len() && self.end.is_none() && self.slots[at].made < self.rules.steps
+    }
+
+    /// What the next step of vCPU i begins with.
+    fn next_start<S: SecondStage>(&mut self, i: VcpuNo, stage: &S) -> StepStart
+        requires inside { i < length self.old.state.slots }
+        requires stage { IsFor (S.text stage.now) (S.ram stage.now) self.old.state.ram }
+        ensures value { result ≡ next_start self.old.state i }
+        ensures stays { self.new ≡ self.old }
+    {
+        let clock = self.clock();
+        let at = i.0 as usize;
+        begin(
+            &self.slots[at].vcpu,
+            &self.ram,
+            &mut self.caches[at],
+            &self.feed,
+            stage,
+            clock,
+        )
     }
 
     /// The rest of a step of vCPU i that begins so.
     #[tactic(auto, unfolding(crate::specs::Board::after_made))]
-    fn go_on<S: SecondStage>(&mut self, i: VcpuNo, ready: Ready, stage: &S)
-        requires may { may self.old.steps self.old.state i ≡ true }
+    fn go_on<S: SecondStage>(&mut self, i: VcpuNo, start: StepStart, stage: &S)
+        requires may { may self.old.rules self.old.state i ≡ true }
         requires stage { IsFor (S.text stage.now) (S.ram stage.now) self.old.state.ram }
-        ensures { self.new ≡ moved self.old i (stepped_by self.old.steps self.old.state i ready) }
+        ensures after { self.new ≡ moved self.old i (stepped_by self.old.rules self.old.state i start) }
+        ensures keeps { KeepsText self.old.state.ram self.new.state.ram }
     {
-        let clock = self.schedule.len() as u64;
+        let clock = self.clock();
         let at = i.0 as usize;
         let mut put = None;
         let left = carry_at(
-            ready,
-            &mut self.vcpus,
+            &self.rules,
+            start,
+            &mut self.slots,
             at,
             &mut self.ram,
+            &mut self.caches[at],
             &mut self.feed,
             stage,
             &mut put,
             clock,
         );
-        count_up(&mut self.counts, at, self.steps);
-        nest(&mut self.depths, at, left.nesting, clock);
-        break_by(&mut self.vcpus, at, left.wrote);
         say(&mut self.console, put);
         push_vcpu(&mut self.schedule, i);
-        self.end = end_of(self.steps, &self.counts, left.end);
+        self.end = end_by(&self.rules, &self.slots, left.end);
     }
 
-    /// One step of the full machine, which reads its instruction from the original memory.
+    /// One step of the full machine, which reads its instruction from the original memory. Kernel text and the size of
+    /// memory stay.
     #[tactic(auto, unfolding(crate::specs::Board::step_of, crate::specs::Board::next_of))]
     pub fn step_full(&mut self, i: VcpuNo) -> Full
         ensures after { self.new ≡ full_after self.old i }
         ensures answer { result ≡ full_answer self.old i }
+        ensures keeps { KeepsText self.old.state.ram self.new.state.ram }
     {
         if !self.may(i) {
             return Full::Over;
         }
         let stage = flat(&self.ram);
-        let clock = self.schedule.len() as u64;
-        let ready = ready_for(
-            &self.vcpus,
-            i.0 as usize,
-            &self.ram,
-            &self.feed,
-            &stage,
-            clock,
-        );
-        let place = place_fetched(&ready);
-        self.go_on(i, ready, &stage);
+        let start = self.next_start(i, &stage);
+        let place = place_fetched(&start);
+        self.go_on(i, start, &stage);
         Full::Stepped(place)
     }
 
@@ -425,32 +422,24 @@ impl Board {
 
     /// What vCPU i does by these windows.
     #[tactic(auto, unfolding(crate::specs::Seen::verdict_of))]
-    fn verdict<S: SecondStage>(&self, i: VcpuNo, seen: &Windows, stage: &S) -> Verdict
-        requires stage { IsFor (S.text stage.now) (S.ram stage.now) self.now.state.ram }
-        ensures { result ≡ verdict_of self.now.steps self.now.state i seen.now }
+    fn verdict<S: SecondStage>(&mut self, i: VcpuNo, seen: &Windows, stage: &S) -> Verdict
+        requires stage { IsFor (S.text stage.now) (S.ram stage.now) self.old.state.ram }
+        ensures value { result ≡ verdict_of self.old.rules self.old.state i seen.now }
+        ensures stays { self.new ≡ self.old }
     {
         if !self.may(i) {
             return Verdict::Idle;
         }
-        let clock = self.schedule.len() as u64;
-        let text = self.ram.text();
-        let ready = ready_for(
-            &self.vcpus,
-            i.0 as usize,
-            &self.ram,
-            &self.feed,
-            stage,
-            clock,
-        );
-        judge(text, seen, ready)
+        let start = self.next_start(i, stage);
+        judge(self.ram.text(), seen, start)
     }
 
     /// What stands at a trap of vCPU i on the zero at a place of text: the clock, the place and the call chain.
     fn trapped(&self, i: VcpuNo, view: ViewNo, place: Gpa) -> Trapped
-        requires { i < length self.now.state.vcpus }
+        requires { i < length self.now.state.slots }
         ensures { result ≡ trapped_at self.now.state i view place }
     {
-        let vcpu = &self.vcpus[i.0 as usize];
+        let vcpu = self.vcpu(i);
         let chain = chain_of(&self.ram, &vcpu.csr, vcpu.mode, &vcpu.regs);
         Trapped {
             view,
@@ -461,20 +450,23 @@ impl Board {
         }
     }
 
-    /// One step by the halfwords that a lane holds of a view, whatever they are: a step, a need of the pair at a
-    /// halfword number, or a trap on a zero outside the cleared range; all but a step leave the board as it was.
+    /// One step by the windows that a lane holds of a view, whatever is in them: a step, a need of a line, or a trap on
+    /// a zero outside the cleared range; all but a step leave the board as it was. Kernel text and the size of memory
+    /// stay, so the stage fits the board after the step too.
     #[tactic(auto, unfolding(crate::specs::Seen::after_verdict))]
     pub fn step_seen<S: SecondStage>(&mut self, i: VcpuNo, seen: &Windows, stage: &S) -> Seen
         requires stage { IsFor (S.text stage.now) (S.ram stage.now) self.old.state.ram }
-        ensures after { self.new ≡ after_verdict self.old i (verdict_of self.old.steps self.old.state i seen.now) }
-        ensures answer { result ≡ seen_by self.old.state i seen.now.view (verdict_of self.old.steps self.old.state i seen.now) }
+        ensures after { self.new ≡ after_verdict self.old i (verdict_of self.old.rules self.old.state i seen.now) }
+        ensures answer { result ≡ seen_by self.old.state i seen.now.view (verdict_of self.old.rules self.old.state i seen.now) }
+        ensures keeps { KeepsText self.old.state.ram self.new.state.ram }
+        ensures stage { IsFor (S.text stage.now) (S.ram stage.now) self.new.state.ram }
     {
         match self.verdict(i, seen, stage) {
             Verdict::Idle => Seen::Over,
-            Verdict::Needs(n) => Seen::Need(n),
+            Verdict::Needs(line) => Seen::Need(line),
             Verdict::Zeroes(place) => Seen::Zero(self.trapped(i, seen.view, place)),
-            Verdict::Goes(ready) => {
-                self.go_on(i, ready, stage);
+            Verdict::Goes(start) => {
+                self.go_on(i, start, stage);
                 Seen::Stepped
             }
         }

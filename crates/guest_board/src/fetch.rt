@@ -3,6 +3,7 @@
 ghost use Rattle.std.specs.Prelude.{◌≡◌, ◌+◌, ◌-◌, ◌%◌, ◌^◌, ◌<◌, true, false};
 ghost use Rattle.gstage.specs.Stage.{IsFor};
 ghost use Rattle.guest_ram.specs.Ram.{Ram, is_inside, IsLaid};
+ghost use Rattle.sv39_walk.specs.Cache.{Fits};
 ghost use Rattle.guest_board.specs.Fetch.{half_place, half_by, half_at, is_split, with_first, with_second, fetched, second_place, text_place, outside_text, with_halves};
 ghost use Rattle.guest_board.specs.FetchFacts.{HalfInside};
 
@@ -13,10 +14,11 @@ use guest_ram::GuestRam;
 use rv_step::causes::{FETCH_ACCESS_FAULT, FETCH_PAGE_FAULT};
 use rv_step::resolve::{Resolved, resolve};
 use rv_step::vcpu::Vcpu;
+use sv39_walk::cache::WalkCache;
 
 /// Where a halfword is fetched from: whether in text, and its place; or why it is not.
 #[derive(Debug, Clone, Copy)]
-pub enum Half {
+pub enum HalfPlace {
     In { text: bool, place: Gpa },
     Faults { cause: u64, tval: u64 },
     Stops(Stop),
@@ -44,26 +46,34 @@ pub enum Fetched {
 }
 
 #[tactic(auto, unfolding(crate::specs::Fetch::half_place))]
-fn find<S: SecondStage>(v: &Vcpu, ram: &GuestRam, stage: &S, va: Va) -> Half
-    requires { IsFor (S.text stage.now) (S.ram stage.now) ram.now }
+fn find<S: SecondStage>(
+    v: &Vcpu,
+    ram: &GuestRam,
+    cache: &mut WalkCache,
+    stage: &S,
+    va: Va,
+) -> HalfPlace
+    requires stage { IsFor (S.text stage.now) (S.ram stage.now) ram.now }
+    requires fits { Fits ram.now cache.old }
+    ensures fits { Fits ram.now cache.new }
     ensures value { result ≡ half_place v.now ram.now va }
     ensures inside { HalfInside ram.now result }
 {
-    match resolve(v, ram, stage, Access::Fetch, va) {
-        Resolved::Text(place) => Half::In { text: true, place },
+    match resolve(v, ram, cache, stage, Access::Fetch, va) {
+        Resolved::Text(place) => HalfPlace::In { text: true, place },
         Resolved::Ram(place) => match v.mode {
-            Mode::Vs => Half::Stops(Stop::KernelOutsideText),
-            Mode::Vu => Half::In { text: false, place },
+            Mode::Vs => HalfPlace::Stops(Stop::KernelOutsideText),
+            Mode::Vu => HalfPlace::In { text: false, place },
         },
-        Resolved::PageFault => Half::Faults {
+        Resolved::PageFault => HalfPlace::Faults {
             cause: FETCH_PAGE_FAULT,
             tval: va.0,
         },
-        Resolved::AccessFault => Half::Faults {
+        Resolved::AccessFault => HalfPlace::Faults {
             cause: FETCH_ACCESS_FAULT,
             tval: va.0,
         },
-        Resolved::TableInText => Half::Stops(Stop::TableInText),
+        Resolved::TableInText => HalfPlace::Stops(Stop::TableInText),
     }
 }
 
@@ -87,14 +97,21 @@ fn splits(text: bool, first: Gpa, other: bool, second: Gpa) -> bool
 
 /// What the fetch of the vCPU's next instruction comes to.
 #[tactic(auto, unfolding(crate::specs::Fetch::fetched))]
-pub(crate) fn fetch<S: SecondStage>(v: &Vcpu, ram: &GuestRam, stage: &S) -> Fetched
-    requires { IsFor (S.text stage.now) (S.ram stage.now) ram.now }
-    ensures { result ≡ fetched v.now ram.now }
+pub(crate) fn fetch<S: SecondStage>(
+    v: &Vcpu,
+    ram: &GuestRam,
+    cache: &mut WalkCache,
+    stage: &S,
+) -> Fetched
+    requires stage { IsFor (S.text stage.now) (S.ram stage.now) ram.now }
+    requires fits { Fits ram.now cache.old }
+    ensures value { result ≡ fetched v.now ram.now }
+    ensures fits { Fits ram.now cache.new }
 {
-    match find(v, ram, stage, v.pc) {
-        Half::Faults { cause, tval } => Fetched::Faults { cause, tval },
-        Half::Stops(stop) => Fetched::Stops(stop),
-        Half::In { text, place } => {
+    match find(v, ram, cache, stage, v.pc) {
+        HalfPlace::Faults { cause, tval } => Fetched::Faults { cause, tval },
+        HalfPlace::Stops(stop) => Fetched::Stops(stop),
+        HalfPlace::In { text, place } => {
             let first = read(ram, place);
             if first % 4 != 3 {
                 return Fetched::Short {
@@ -103,10 +120,10 @@ pub(crate) fn fetch<S: SecondStage>(v: &Vcpu, ram: &GuestRam, stage: &S) -> Fetc
                     half: first,
                 };
             }
-            match find(v, ram, stage, Va(v.pc.0.wrapping_add(2))) {
-                Half::Faults { cause, tval } => Fetched::Faults { cause, tval },
-                Half::Stops(stop) => Fetched::Stops(stop),
-                Half::In {
+            match find(v, ram, cache, stage, Va(v.pc.0.wrapping_add(2))) {
+                HalfPlace::Faults { cause, tval } => Fetched::Faults { cause, tval },
+                HalfPlace::Stops(stop) => Fetched::Stops(stop),
+                HalfPlace::In {
                     text: other,
                     place: next,
                 } => {

@@ -1,10 +1,16 @@
-//! What every step of the machine leaves as it is. Nothing here runs: each function has a law as its contract.
+//! What every step of the machine leaves as it is, whatever it begins with: by the original memory or by windows. Nothing
+//! here runs: each function has a law as its contract.
 
-ghost use Rattle.guest_board.specs.Counted.{StepsCountOne};
-ghost use Rattle.guest_board.specs.Laws.{StepsKeepText, EndsChangeNothing, StepsLeaveOthers};
+ghost use Rattle.guest_board.specs.Laws.{ClockCountsSteps, EndsChangeNothing, EndsStay, FullStepsBegin, IdleRunsHaveEnded, IdleVcpusStay, NumberOfVcpusStays, StepsCountOne, StepsKeepText, StepsLeaveOthers, StepsReleaseOthers};
+
+/// A step of the full machine is a step that begins with what is next by the original memory.
+#[tactic(auto, using(crate::proofs::Steps::full_steps_begin))]
+pub fn full_steps_begin()
+    ensures { FullStepsBegin }
+{}
 
 /// No step changes kernel text or the size of memory, and each page counts one more store at most.
-#[tactic(auto, using(crate::proofs::Stays::step_keeps))]
+#[tactic(auto, using(crate::proofs::Stays::stepped_keeps))]
 pub fn steps_keep_text()
     ensures { StepsKeepText }
 {}
@@ -15,13 +21,35 @@ pub fn ends_change_nothing()
     ensures { EndsChangeNothing }
 {}
 
-/// A step of one vCPU leaves registers, pc, mode and control registers of the others.
-#[tactic(auto, using(crate::proofs::Others::leaves_others))]
+/// A step of one vCPU leaves all that is kept of the others, but that it breaks their reservations of what it wrote.
+#[tactic(auto, using(crate::proofs::Others::releases_others, crate::proofs::Others::leaves_others))]
 pub fn steps_leave_others()
-    ensures { StepsLeaveOthers }
+    ensures but_for_reservations { StepsLeaveOthers }
+    ensures exactly { StepsReleaseOthers }
 {}
 
-/// A step keeps the number of vCPUs, and counts one step more of its own.
+/// A step keeps the number of vCPUs, and counts one step more of its own and of all.
+#[tactic(auto, using(crate::proofs::Steps::number_stays, crate::proofs::Steps::counts_one, crate::proofs::Steps::clock_counts))]
 pub fn steps_count_one()
-    ensures { StepsCountOne }
+    ensures vcpus { NumberOfVcpusStays }
+    ensures made { StepsCountOne }
+    ensures clock { ClockCountsSteps }
+{}
+
+/// Where the run has ended nothing happens any more.
+#[tactic(auto, using(crate::proofs::Idle::ends_stay))]
+pub fn ends_stay()
+    ensures { EndsStay }
+{}
+
+/// A vCPU that may not step may not after a step of another either.
+#[tactic(auto, using(crate::proofs::Idle::idle_vcpus_stay))]
+pub fn idle_vcpus_stay()
+    ensures { IdleVcpusStay }
+{}
+
+/// Where nobody may step after a step, the run has ended.
+#[tactic(auto, using(crate::proofs::Idle::idle_runs_have_ended))]
+pub fn idle_runs_have_ended()
+    ensures { IdleRunsHaveEnded }
 {}

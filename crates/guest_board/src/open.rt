@@ -1,14 +1,16 @@
 //! The parts of a board before the first step.
 
-ghost use Rattle.std.specs.Prelude.{◌≡◌, ◌+◌, ◌≤◌, IfOk, Some, None, length, replicate, vec_len};
+ghost use Rattle.std.specs.Prelude.{◌≡◌, ◌+◌, ◌≤◌, All, IfOk, Some, None, length};
 ghost use Rattle.guest_input.specs.Accepted.{IsImage, IsSetupFor, PartsEndBy};
 ghost use Rattle.guest_input.specs.TextIn.{cut};
-ghost use Rattle.guest_ram.specs.Ram.{placed};
+ghost use Rattle.guest_ram.specs.Ram.{Ram, placed};
+ghost use Rattle.sv39_walk.specs.Cache.{Fits, empty_cache};
 ghost use Rattle.fc_numbers.specs.Spans.{text_size};
 ghost use Rattle.fc_numbers.specs.declared.places.TheConstants.{RAM_MOST, RAM_START};
-ghost use Rattle.guest_board.specs.First.{first_vcpus, first_vcpu, first_ram, with_parts, text_parts};
+ghost use Rattle.guest_board.specs.First.{first_slot, first_slots, first_vcpu, first_ram, with_parts, text_parts};
 ghost use Rattle.guest_board.specs.OpenFacts.{LieBelow};
 
+use crate::slot::Slot;
 use fc_numbers::machine::Mode;
 use fc_numbers::memory::NoMemory;
 use fc_numbers::name::Name;
@@ -20,9 +22,10 @@ use guest_ram::GuestRam;
 use rv_csr::CsrFile;
 use rv_step::vcpu::Vcpu;
 use std::alloc::Global;
+use sv39_walk::cache::WalkCache;
+use sv39_walk::laws::new_caches_fit;
 
-fn start_vcpu(entry: u64, i: u8, reserved: Option<Gpa>) -> Vcpu
-    requires { reserved ≡ None }
+fn start_vcpu(entry: u64, i: u8) -> Vcpu
     ensures { result ≡ first_vcpu entry i }
 {
     let mut regs = Regs::new();
@@ -32,21 +35,9 @@ fn start_vcpu(entry: u64, i: u8, reserved: Option<Gpa>) -> Vcpu
         pc: Va(entry),
         mode: Mode::Vs,
         csr: CsrFile::new(),
-        reserved,
+        reserved: None,
         number: VcpuNo(i),
     }
-}
-
-/// The vCPUs at the entry: VS mode, all registers zero but a0, the vCPU's number.
-#[tactic(auto, unfolding(crate::specs::First::first_vcpus))]
-pub(crate) fn start_vcpus(alloc: Global, entry: u64, count: u8) -> Result<Vec<Vcpu>, NoMemory>
-    ensures { IfOk result (λ vcpus. vcpus.items ≡ first_vcpus entry count) }
-{
-    let mut vcpus = Vec::new(alloc);
-    for i in 0..count {
-        vcpus.push(start_vcpu(entry, i, None))?;
-    }
-    Ok(vcpus)
 }
 
 fn again(name: &Option<Name>) -> Option<Name>
@@ -58,26 +49,45 @@ fn again(name: &Option<Name>) -> Option<Name>
     }
 }
 
-/// The first app name, once for each vCPU.
-pub(crate) fn start_names(
-    alloc: Global,
-    start: &Option<Name>,
-    count: u8,
-) -> Result<Vec<Option<Name>>, NoMemory>
-    ensures { IfOk result (λ names. names.items ≡ replicate count start.now) }
+fn start_slot(entry: u64, name: &Option<Name>, i: u8) -> Slot
+    ensures { result ≡ first_slot entry name.now i }
 {
-    let mut names = Vec::new(alloc);
-    for i in 0..count {
-        names.push(again(start))?;
+    Slot {
+        vcpu: start_vcpu(entry, i),
+        made: 0,
+        name: again(name),
+        depth: 0,
     }
-    Ok(names)
 }
 
-/// A zero for each vCPU.
-pub(crate) fn zeros(alloc: Global, count: u8) -> Result<Vec<u32>, NoMemory>
-    ensures { IfOk result (λ numbers. numbers.items ≡ replicate count 0) }
+/// The vCPUs at the entry, each with the first app name.
+#[tactic(auto, unfolding(crate::specs::First::first_slots))]
+pub(crate) fn start_slots(
+    alloc: Global,
+    entry: u64,
+    name: &Option<Name>,
+    count: u8,
+) -> Result<Vec<Slot>, NoMemory>
+    ensures { IfOk result (λ slots. slots.items ≡ first_slots entry name.now count) }
 {
-    Ok(vec![in alloc; 0u32; count as usize]?)
+    let mut slots = Vec::new(alloc);
+    for i in 0..count {
+        slots.push(start_slot(entry, name, i))?;
+    }
+    Ok(slots)
+}
+
+/// For each vCPU a cache that keeps nothing.
+pub(crate) fn new_caches(alloc: Global, count: u8) -> Result<Vec<WalkCache>, NoMemory>
+    ensures many { IfOk result (λ caches. length caches.items ≡ count) }
+    ensures fit { IfOk result (λ caches. (ram : Ram) → All (Fits ram) caches.items) }
+{
+    new_caches_fit();
+    let mut caches = Vec::new(alloc);
+    for _ in 0..count {
+        caches.push(WalkCache::new())?;
+    }
+    Ok(caches)
 }
 
 /// Places the ranges of text, whose bytes stand one after another.

@@ -1,45 +1,53 @@
 //! What a vCPU does by the halfwords that its lane holds of a view.
 
-ghost use Rattle.std.specs.Prelude.{◌≡◌, ◌≤◌, true};
-ghost use Rattle.fc_numbers.specs.Spans.{AreRangesFrom, in_text, text_size};
+ghost use Rattle.std.specs.Prelude.{◌≡◌, ◌≤◌, ◌<◌, true, option_copied};
+ghost use Rattle.fc_numbers.specs.Spans.{AreRangesFrom, in_text, offset_in, text_size};
 ghost use Rattle.fc_numbers.specs.declared.places.TheConstants.{RAM_START};
 ghost use Rattle.fc_numbers.specs.declared.spans.TheConstants.{TEXT_MOST};
 ghost use Rattle.guest_board.specs.Fetch.{text_place, with_halves};
 ghost use Rattle.guest_board.specs.Step.{place_of};
 ghost use Rattle.guest_board.specs.SeenFacts.{IsPlacedIn};
-ghost use Rattle.guest_board.specs.Seen.{by_pair, by_ready, by_place, by_halves, half_no, is_cleared, first_of, second_of};
+ghost use Rattle.guest_board.specs.Seen.{by_start, by_place, by_window, by_halves, half_in_line, is_cleared, line_no, window_at};
 
 use crate::fetch::{Fetched, place_in_text, replace_halves};
-use crate::step::Ready;
+use crate::step::StepStart;
+use arrayvec::ArrayVec;
 use chain_log::entry::Trapped;
-use fc_numbers::pair::Pair;
 use fc_numbers::places::{Gpa, Span, ViewNo};
 use fc_numbers::spans::offset_of;
+use fc_numbers::window::{LINE, Window};
 
-/// What a lane holds: its view, the pair that it took of the view's pages, and the range whose zeros are the guest's.
-#[derive(Debug, Clone, Copy, PartialEq, Eq)]
+/// What a lane holds of its view.
+#[derive(Drop)]
 pub struct Windows {
+    /// The view.
     pub view: ViewNo,
-    pub held: Option<Pair>,
+    /// Copies of lines of the view's pages, the oldest first.
+    pub held: ArrayVec<Window, 4>,
+    /// The places whose zeros are the guest's own, if it has any.
     pub cleared: Option<Span>,
 }
 
-/// What a vCPU does by its windows: nothing, since it may not step; a need of the pair at a halfword number; a trap on
-/// the zero at a place; a step that begins so.
+/// What a vCPU does by its windows: nothing, since it may not step; a need of the line of a number; a trap on the zero
+/// at a place; a step that begins so.
 #[derive(Debug, Clone, Copy)]
 pub enum Verdict {
     Idle,
     Needs(u32),
     Zeroes(Gpa),
-    Goes(Ready),
+    Goes(StepStart),
 }
 
 /// What a step over windows did.
 #[derive(Drop)]
 pub enum Seen {
+    /// The vCPU stepped.
     Stepped,
+    /// No window of the line of this number is held.
     Need(u32),
+    /// The halfword at a place is zero, outside the cleared places.
     Zero(Trapped),
+    /// The vCPU may not step.
     Over,
 }
 
@@ -52,59 +60,73 @@ fn is_in_cleared(cleared: &Option<Span>, place: Gpa) -> bool
     }
 }
 
-fn read_halves(seen: &Windows, got: Fetched, place: Gpa, pair: Pair) -> Verdict
-    ensures { result ≡ by_halves seen.now.cleared got place pair }
+fn read_halves(cleared: &Option<Span>, got: Fetched, place: Gpa, first: u16, second: u16) -> Verdict
+    ensures { result ≡ by_halves cleared.now got place first second }
 {
-    if pair.halves[0] == 0 && !is_in_cleared(&seen.cleared, place) {
+    if first == 0 && !is_in_cleared(cleared, place) {
         Verdict::Zeroes(place)
     } else {
-        Verdict::Goes(Ready::Fetches(replace_halves(got, pair.halves[0], pair.halves[1])))
+        Verdict::Goes(StepStart::Fetches(replace_halves(got, first, second)))
     }
 }
 
-/// The number of the halfword of text at a place.
-#[tactic(auto, using(crate::proofs::Parts::few_halves))]
-fn half_no(text: &[Span], place: Gpa) -> u32
+/// The offset in text of a place.
+#[tactic(auto, using(crate::proofs::Parts::few_bytes))]
+fn offset_at(text: &[Span], place: Gpa) -> u64
     requires ranges { AreRangesFrom RAM_START text.now }
     requires few { text_size text.now ≤ TEXT_MOST }
     requires inside { in_text text.now place ≡ true }
-    ensures { result ≡ half_no text.now place }
+    ensures value { result ≡ offset_in text.now place }
+    ensures below { result < TEXT_MOST }
 {
     match offset_of(text, place) {
-        Some(offset) => (offset / 2) as u32,
+        Some(offset) => offset,
         None => unreachable!(),
     }
 }
 
-fn read_pair(text: &[Span], seen: &Windows, got: Fetched, place: Gpa) -> Verdict
+/// The first of the windows of a line.
+fn window_at(held: &[Window], line: u32) -> Option<&Window>
+    ensures { option_copied result ≡ window_at line held.now }
+{
+    held.iter().find(|window| window.line == line)
+}
+
+fn read_window(text: &[Span], seen: &Windows, got: Fetched, place: Gpa) -> Verdict
     requires ranges { AreRangesFrom RAM_START text.now }
     requires few { text_size text.now ≤ TEXT_MOST }
     requires inside { in_text text.now place ≡ true }
-    ensures { result ≡ by_pair text.now seen.now.cleared got place seen.now.held }
+    ensures { result ≡ by_window text.now seen.now.cleared got place (window_at (line_no text.now place) seen.now.held.items) }
 {
-    let n = half_no(text, place);
-    match seen.held {
-        None => Verdict::Needs(n),
-        Some(pair) => if pair.at == n {
-            read_halves(seen, got, place, pair)
-        } else {
-            Verdict::Needs(n)
-        },
+    let offset = offset_at(text, place);
+    let line = (offset / LINE) as u32;
+    match window_at(&seen.held, line) {
+        None => Verdict::Needs(line),
+        Some(window) => {
+            let n = (offset / 2 % 32) as usize;
+            read_halves(
+                &seen.cleared,
+                got,
+                place,
+                window.halves[n],
+                window.halves[n + 1],
+            )
+        }
     }
 }
 
 /// What a vCPU does whose next step begins so.
-pub(crate) fn judge(text: &[Span], seen: &Windows, ready: Ready) -> Verdict
+pub(crate) fn judge(text: &[Span], seen: &Windows, start: StepStart) -> Verdict
     requires ranges { AreRangesFrom RAM_START text.now }
     requires few { text_size text.now ≤ TEXT_MOST }
-    requires inside { IsPlacedIn text.now (place_of ready) }
-    ensures { result ≡ by_ready text.now seen.now ready }
+    requires inside { IsPlacedIn text.now (place_of start) }
+    ensures { result ≡ by_start text.now seen.now start }
 {
-    match ready {
-        Ready::Interrupt(code) => Verdict::Goes(Ready::Interrupt(code)),
-        Ready::Fetches(got) => match place_in_text(&got) {
-            None => Verdict::Goes(Ready::Fetches(got)),
-            Some(place) => read_pair(text, seen, got, place),
+    match start {
+        StepStart::Interrupt(code) => Verdict::Goes(StepStart::Interrupt(code)),
+        StepStart::Fetches(got) => match place_in_text(&got) {
+            None => Verdict::Goes(StepStart::Fetches(got)),
+            Some(place) => read_window(text, seen, got, place),
         },
     }
 }

@@ -5,9 +5,13 @@ ghost use Rattle.gstage.specs.Stage.{IsFor};
 ghost use Rattle.guest_ram.specs.Ram.{Ram, CanStore};
 ghost use Rattle.rv_decode.specs.Rows.{decode_of, decode16_of};
 ghost use Rattle.rv_step.specs.Site.{Site};
-ghost use Rattle.device_feed.specs.Devices.{Devices};
+ghost use Rattle.device_feed.specs.Devices.{Devices, lines_of};
+ghost use Rattle.sv39_walk.specs.Cache.{Fits, KeepsFits};
+ghost use Rattle.trap_unit.specs.Trap.{due};
 ghost use Rattle.guest_board.specs.Fetch.{fetched, text_place};
-ghost use Rattle.guest_board.specs.Step.{Made, in_trap, vcpu_after, left_by, by_inst, by_fetch, nesting_of, ready_of, ready_by, made_by, due_at, place_of, told, plain, word, with_vcpu};
+ghost use Rattle.guest_board.specs.declared.step.StepStart.TheVariants.{Fetches as Begun};
+ghost use Rattle.guest_board.specs.Made.{Made, ended, ends, in_trap, left_by, nesting_of, plain, settled, told, trapped, vcpu_after};
+ghost use Rattle.guest_board.specs.Step.{by_inst, due_at, made_by, place_of, start_by, step_start, word};
 
 use crate::fetch::{Fetched, fetch, place_in_text};
 use device_feed::feed::Feed;
@@ -19,7 +23,8 @@ use rv_decode::{Inst, decode16, decode32};
 use rv_step::causes::ILLEGAL_INSTRUCTION;
 use rv_step::execute::execute;
 use rv_step::vcpu::{Effect, Vcpu};
-use trap_unit::{INTERRUPT, enter, pending};
+use sv39_walk::cache::WalkCache;
+use trap_unit::{INTERRUPT, enter, may_interrupt, pending};
 
 /// What a step does to the depth of traps.
 #[derive(Debug, Clone, Copy)]
@@ -30,9 +35,10 @@ pub enum Nesting {
     Returns,
 }
 
-/// What a step leaves besides the machine's parts: the end of the run, the place that was written, the traps.
+/// What a step leaves besides the machine's parts: the end of the run, the place that was written, and what it does to
+/// the depth of traps.
 #[derive(Debug, Clone, Copy)]
-pub struct Left {
+pub struct StepOutcome {
     pub end: Option<End>,
     pub wrote: Option<Gpa>,
     pub nesting: Nesting,
@@ -40,22 +46,22 @@ pub struct Left {
 
 /// What a step begins with: an interrupt that is due, by its code, or a fetch.
 #[derive(Debug, Clone, Copy)]
-pub enum Ready {
+pub enum StepStart {
     Interrupt(u8),
     Fetches(Fetched),
 }
 
-fn left_plain(nesting: Nesting) -> Left
+fn left_plain(nesting: Nesting) -> StepOutcome
     ensures { result ≡ plain nesting }
 {
-    Left {
+    StepOutcome {
         end: None,
         wrote: None,
         nesting,
     }
 }
 
-#[tactic(auto, unfolding(crate::specs::Step::in_trap))]
+#[tactic(auto, unfolding(crate::specs::Made::in_trap))]
 fn trap(v: &mut Vcpu, cause: u64, tval: u64)
     ensures { v.new ≡ in_trap v.old cause tval }
 {
@@ -65,12 +71,12 @@ fn trap(v: &mut Vcpu, cause: u64, tval: u64)
     v.mode = Mode::Vs;
 }
 
-fn settle(v: &mut Vcpu, effect: Effect, bits: u32, nesting: Nesting) -> Left
+fn settle(v: &mut Vcpu, effect: Effect, bits: u32, nesting: Nesting) -> StepOutcome
     ensures vcpu { v.new ≡ vcpu_after effect bits v.old }
     ensures left { result ≡ left_by effect nesting }
 {
     match effect {
-        Effect::Next { wrote } => Left {
+        Effect::Next { wrote } => StepOutcome {
             end: None,
             wrote,
             nesting,
@@ -84,7 +90,7 @@ fn settle(v: &mut Vcpu, effect: Effect, bits: u32, nesting: Nesting) -> Left
             trap(v, cause, value);
             left_plain(Nesting::Traps)
         }
-        Effect::End(end) => Left {
+        Effect::End(end) => StepOutcome {
             end: Some(end),
             wrote: None,
             nesting: Nesting::Stays,
@@ -92,7 +98,7 @@ fn settle(v: &mut Vcpu, effect: Effect, bits: u32, nesting: Nesting) -> Left
     }
 }
 
-#[tactic(auto, unfolding(crate::specs::Step::nesting_of))]
+#[tactic(auto, unfolding(crate::specs::Made::nesting_of))]
 fn nesting_by(inst: &Inst) -> Nesting
     ensures { result ≡ nesting_of inst.now }
 {
@@ -109,14 +115,18 @@ fn act<S: SecondStage>(
     len: u8,
     v: &mut Vcpu,
     ram: &mut GuestRam,
+    cache: &mut WalkCache,
     feed: &mut Feed,
     stage: &S,
     put: &mut Option<u8>,
     clock: u64,
-) -> Left
+) -> StepOutcome
     requires stage { IsFor (S.text stage.now) (S.ram stage.now) ram.old }
     requires stamps { CanStore ram.old }
-    ensures { let got : Made = record { vcpu = v.new; ram = ram.new; devices = feed.new; put = put.new; left = result }
+    requires fits { Fits ram.old cache.old }
+    ensures fits { Fits ram.new cache.new }
+    ensures others { KeepsFits ram.old ram.new }
+    ensures made { let got : Made = record { vcpu = v.new; ram = ram.new; devices = feed.new; put = put.new; left = result }
         in let s : Site = record { vcpu = v.old; ram = ram.old; devices = feed.old }
         in got ≡ by_inst inst bits len clock s }
 {
@@ -127,27 +137,31 @@ fn act<S: SecondStage>(
             left_plain(Nesting::Traps)
         }
         Some(inst) => {
-            let effect = execute(&inst, len, v, ram, feed, stage, put, clock);
+            let effect = execute(&inst, len, v, ram, cache, feed, stage, put, clock);
             settle(v, effect, bits, nesting_by(&inst))
         }
     }
 }
 
-#[tactic(auto, unfolding(crate::specs::Step::by_fetch))]
+#[tactic(auto, unfolding(crate::specs::Step::made_by))]
 fn carry_out_fetch<S: SecondStage>(
     got: Fetched,
     v: &mut Vcpu,
     ram: &mut GuestRam,
+    cache: &mut WalkCache,
     feed: &mut Feed,
     stage: &S,
     put: &mut Option<u8>,
     clock: u64,
-) -> Left
+) -> StepOutcome
     requires stage { IsFor (S.text stage.now) (S.ram stage.now) ram.old }
     requires stamps { CanStore ram.old }
-    ensures { let made : Made = record { vcpu = v.new; ram = ram.new; devices = feed.new; put = put.new; left = result }
+    requires fits { Fits ram.old cache.old }
+    ensures fits { Fits ram.new cache.new }
+    ensures others { KeepsFits ram.old ram.new }
+    ensures made { let made : Made = record { vcpu = v.new; ram = ram.new; devices = feed.new; put = put.new; left = result }
         in let s : Site = record { vcpu = v.old; ram = ram.old; devices = feed.old }
-        in made ≡ by_fetch got clock s }
+        in made ≡ made_by (Begun got) clock s }
 {
     match got {
         Fetched::Short { half, .. } => {
@@ -157,6 +171,7 @@ fn carry_out_fetch<S: SecondStage>(
                 2,
                 v,
                 ram,
+                cache,
                 feed,
                 stage,
                 put,
@@ -165,7 +180,18 @@ fn carry_out_fetch<S: SecondStage>(
         }
         Fetched::Long { first, second, .. } => {
             let bits = first as u32 + 65536 * second as u32;
-            act(decode32(bits), bits, 4, v, ram, feed, stage, put, clock)
+            act(
+                decode32(bits),
+                bits,
+                4,
+                v,
+                ram,
+                cache,
+                feed,
+                stage,
+                put,
+                clock,
+            )
         }
         Fetched::Faults { cause, tval } => {
             *put = None;
@@ -174,7 +200,7 @@ fn carry_out_fetch<S: SecondStage>(
         }
         Fetched::Stops(stop) => {
             *put = None;
-            Left {
+            StepOutcome {
                 end: Some(End::Stopped(stop)),
                 wrote: None,
                 nesting: Nesting::Stays,
@@ -186,54 +212,72 @@ fn carry_out_fetch<S: SecondStage>(
 /// The rest of a step that begins so.
 #[tactic(auto, unfolding(crate::specs::Step::made_by))]
 pub(crate) fn carry_out<S: SecondStage>(
-    ready: Ready,
+    start: StepStart,
     v: &mut Vcpu,
     ram: &mut GuestRam,
+    cache: &mut WalkCache,
     feed: &mut Feed,
     stage: &S,
     put: &mut Option<u8>,
     clock: u64,
-) -> Left
+) -> StepOutcome
     requires stage { IsFor (S.text stage.now) (S.ram stage.now) ram.old }
     requires stamps { CanStore ram.old }
-    ensures { let made : Made = record { vcpu = v.new; ram = ram.new; devices = feed.new; put = put.new; left = result }
+    requires fits { Fits ram.old cache.old }
+    ensures fits { Fits ram.new cache.new }
+    ensures others { KeepsFits ram.old ram.new }
+    ensures made { let made : Made = record { vcpu = v.new; ram = ram.new; devices = feed.new; put = put.new; left = result }
         in let s : Site = record { vcpu = v.old; ram = ram.old; devices = feed.old }
-        in made ≡ made_by ready clock s }
+        in made ≡ made_by start clock s }
 {
-    match ready {
-        Ready::Interrupt(code) => {
+    match start {
+        StepStart::Interrupt(code) => {
             *put = None;
             trap(v, INTERRUPT + code as u64, 0);
             left_plain(Nesting::Interrupts)
         }
-        Ready::Fetches(got) => carry_out_fetch(got, v, ram, feed, stage, put, clock),
+        StepStart::Fetches(got) => carry_out_fetch(got, v, ram, cache, feed, stage, put, clock),
+    }
+}
+
+/// The interrupt that is due at this clock, if one is. The lines are asked for only where one may be taken.
+fn due_now(v: &Vcpu, feed: &Feed, clock: u64) -> Option<u8>
+    ensures { result ≡ due v.now.csr v.now.mode (lines_of feed.now v.now.number clock) }
+{
+    if may_interrupt(&v.csr, v.mode) {
+        pending(&v.csr, v.mode, feed.lines(v.number, clock))
+    } else {
+        None
     }
 }
 
 /// What the vCPU's next step begins with.
-#[tactic(auto, unfolding(crate::specs::Step::ready_of))]
+#[tactic(auto, unfolding(crate::specs::Step::step_start))]
 pub(crate) fn begin<S: SecondStage>(
     v: &Vcpu,
     ram: &GuestRam,
+    cache: &mut WalkCache,
     feed: &Feed,
     stage: &S,
     clock: u64,
-) -> Ready
-    requires { IsFor (S.text stage.now) (S.ram stage.now) ram.now }
-    ensures { let s : Site = record { vcpu = v.now; ram = ram.now; devices = feed.now } in result ≡ ready_of s clock }
+) -> StepStart
+    requires stage { IsFor (S.text stage.now) (S.ram stage.now) ram.now }
+    requires fits { Fits ram.now cache.old }
+    ensures value { let s : Site = record { vcpu = v.now; ram = ram.now; devices = feed.now } in result ≡ step_start s clock }
+    ensures fits { Fits ram.now cache.new }
 {
-    match pending(&v.csr, v.mode, feed.lines(v.number, clock)) {
-        Some(code) => Ready::Interrupt(code),
-        None => Ready::Fetches(fetch(v, ram, stage)),
+    match due_now(v, feed, clock) {
+        Some(code) => StepStart::Interrupt(code),
+        None => StepStart::Fetches(fetch(v, ram, cache, stage)),
     }
 }
 
 /// The place in text that a step fetches which begins so.
-pub(crate) fn place_fetched(ready: &Ready) -> Option<Gpa>
-    ensures { result ≡ place_of ready.now }
+pub(crate) fn place_fetched(start: &StepStart) -> Option<Gpa>
+    ensures { result ≡ place_of start.now }
 {
-    match ready {
-        Ready::Interrupt(_) => None,
-        Ready::Fetches(got) => place_in_text(got),
+    match start {
+        StepStart::Interrupt(_) => None,
+        StepStart::Fetches(got) => place_in_text(got),
     }
 }

@@ -26,7 +26,7 @@ use Rattle.guest_image.specs.Asked.{asked_of}
 use Rattle.guest_image.specs.Limits.{is_ram_size, are_steps, what_for, event_for, events_for, hook_at, out_of_order, unless_out, ends_by, holds_image, accepted_setup, setup_of}
 use Rattle.guest_image.specs.declared.image.Field.TheVariants as key
 use Rattle.guest_input.specs.declared.setup.What.TheVariants as what
-use Rattle.guest_image.specs.declared.setup.SetupFault.TheVariants.{NotJson, Limit, ImageOutsideRam, NotBuilt}
+use Rattle.guest_image.specs.declared.setup.SetupFault.TheVariants.{NotJson, Limit, ImageOutsideRam}
 
 bind_ok : {A B E : Type 0} (r : Result A E) (f : A → Result B E) (y : B) → (r >>= f) ≡ Ok y → (x : A) × (r ≡ Ok x) × (f x ≡ Ok y)
 bind_ok (Ok x) f y h = (x, refl, h)
@@ -236,8 +236,7 @@ accepted_law i a s lawful h =
     let hook = bind_ok (hook_at a.hook i.functions) _ s events.2 in
     let order = bind_ok (unless_out (out_of_order 0 0 events.0)) _ s hook.2 in
     let inside = bind_ok (must ImageOutsideRam (holds_image a.ram i)) _ s order.2 in
-    let built = bind_ok (must NotBuilt (not (is_some hook.0))) _ s inside.2 in
-    subst (IsSetupFor i) (same_Ok (setup_with a hook.0 events.0) s built.2)
+    subst (IsSetupFor i) (same_Ok (setup_with a hook.0 events.0) s inside.2)
     (passed_law i a events.0 hook.0 lawful (record {
       vcpus = must_ok (Limit key.Vcpus) (nat_le 1 a.vcpus && nat_le a.vcpus VCPUS_MOST) vcpus.0 vcpus.1;
       ram = must_ok (Limit key.Ram) (is_ram_size a.ram) ram.0 ram.1;

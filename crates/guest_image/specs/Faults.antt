@@ -82,7 +82,6 @@ setup_number setup.NoHook = 4
 setup_number (setup.EventOrder k) = 5
 setup_number setup.ImageOutsideRam = 6
 setup_number setup.NoMemory = 7
-setup_number setup.NotBuilt = 30
 
 abbrev pub setup_name : SetupFault → List ℕ
 setup_name setup.NotJson = codes "NotJson"
@@ -92,7 +91,6 @@ setup_name setup.NoHook = codes "NoHook"
 setup_name (setup.EventOrder k) = codes "EventOrder"
 setup_name setup.ImageOutsideRam = codes "ImageOutsideRam"
 setup_name setup.NoMemory = codes "NoMemory"
-setup_name setup.NotBuilt = codes "NotBuilt"
 
 abbrev pub setup_detail : SetupFault → List ℕ
 setup_detail setup.NotJson = []
@@ -102,7 +100,6 @@ setup_detail setup.NoHook = []
 setup_detail (setup.EventOrder k) = codes " " ++ decimal k
 setup_detail setup.ImageOutsideRam = []
 setup_detail setup.NoMemory = []
-setup_detail setup.NotBuilt = []
 
 -- the printed text of a setup's fault
 unfoldable pub setup_fault_text : SetupFault → List ℕ

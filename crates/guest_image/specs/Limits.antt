@@ -17,7 +17,7 @@ use Rattle.elf_read.specs.Steps.{◌>>=◌, must, or_fault}
 use Rattle.guest_image.specs.Asked.{asked_of}
 use Rattle.guest_image.specs.declared.image.Field.TheVariants as key
 use Rattle.guest_image.specs.declared.setup.SetupFault.{SetupFault}
-use Rattle.guest_image.specs.declared.setup.SetupFault.TheVariants.{NotJson, Limit, NoHook, EventOrder, ImageOutsideRam, NotBuilt}
+use Rattle.guest_image.specs.declared.setup.SetupFault.TheVariants.{NotJson, Limit, NoHook, EventOrder, ImageOutsideRam}
 use Rattle.guest_image.specs.declared.setup_file.AskedWhat.{AskedWhat}
 use Rattle.guest_image.specs.declared.setup_file.AskedWhat.TheVariants.{Key, Raise, Drop}
 use Rattle.guest_image.specs.declared.setup_file.AskedEvent.{AskedEvent}
@@ -85,7 +85,6 @@ accepted_setup i a = do
   hook ← hook_at a.hook i.functions
   order ← unless_out (out_of_order 0 0 events)
   inside ← must ImageOutsideRam (holds_image a.ram i)
-  built ← must NotBuilt (not (is_some hook))
   Ok (record { vcpus = a.vcpus; ram = a.ram; steps = a.steps; hook = hook; name_at = a.name_at; start = a.start; events = events; gstage = a.gstage })
 
 -- the setup of the bytes for an image, or the first fault

@@ -125,7 +125,6 @@ impl SetupFault {
             SetupFault::EventOrder(_) => 5,
             SetupFault::ImageOutsideRam => 6,
             SetupFault::NoMemory => 7,
-            SetupFault::NotBuilt => 30,
         }
     }
 
@@ -141,7 +140,6 @@ impl SetupFault {
             SetupFault::EventOrder(_) => "EventOrder",
             SetupFault::ImageOutsideRam => "ImageOutsideRam",
             SetupFault::NoMemory => "NoMemory",
-            SetupFault::NotBuilt => "NotBuilt",
         }
     }
 

@@ -74,8 +74,8 @@ fn digest(kernel: &ElfParts) -> [u8; 32]
     hasher.finalize()
 }
 
-/// The image of a kernel.
-fn with_digest(kernel: ElfParts) -> Image
+/// The image of a kernel: its parts, with their digest.
+pub fn with_digest(kernel: ElfParts) -> Image
     ensures { result ≡ image_with (digest_of kernel) kernel }
 {
     let digest = digest(&kernel);

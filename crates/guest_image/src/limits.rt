@@ -147,9 +147,6 @@ pub(crate) fn accept_setup(alloc: Global, image: &Image, asked: Asked) -> Result
     if !holds_image(asked.ram, image) {
         return Err(SetupFault::ImageOutsideRam);
     }
-    if hook.is_some() {
-        return Err(SetupFault::NotBuilt);
-    }
     Ok(Setup {
         vcpus: asked.vcpus as u8,
         ram: asked.ram,

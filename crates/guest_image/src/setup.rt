@@ -13,7 +13,7 @@ use guest_input::setup::{Event, What};
 use sqlite_items::Items;
 use std::alloc::Global;
 
-/// Why a file is no setup for an image. The names are printed, and their numbers are 1 to 7 in this order, and 30.
+/// Why a file is no setup for an image. The names are printed, and their numbers are 1 to 7 in this order.
 #[derive(Debug, Clone, Copy, PartialEq, Eq)]
 pub enum SetupFault {
     /// The file is not one JSON value.
@@ -30,8 +30,6 @@ pub enum SetupFault {
     ImageOutsideRam,
     /// An allocation was refused.
     NoMemory,
-    /// There is a hook.
-    NotBuilt,
 }
 
 impl From<NoMemory> for SetupFault {

@@ -3,7 +3,7 @@
 use crate::image_file::read_image;
 use crate::setup_file::read_setup;
 use fc_numbers::machine::GKind;
-use guest_input::image::Image;
+use guest_input::image::{Image, Start};
 use std::alloc::Global;
 use std::test::Fail;
 
@@ -483,7 +483,7 @@ fn setup_faults_come_by_name(rt: HostRuntime) -> Result<(), Fail> {
         ),
         (
             "{\"vcpus\":1,\"ram\":4096,\"steps\":1,\"hook\":\"put\"}",
-            "30 NotBuilt",
+            "ok",
         ),
     ] {
         let got = setup_answer(alloc, setup, &image)?;
@@ -514,12 +514,29 @@ fn image_past_the_end_of_ram_is_refused(rt: HostRuntime) -> Result<(), Fail> {
         ),
         (
             "{\"vcpus\":1,\"ram\":20480,\"steps\":1,\"hook\":\"(head)\"}",
-            "30 NotBuilt",
+            "ok",
         ),
     ] {
         let got = setup_answer(alloc, setup, &image)?;
         assert_eq!(rt; got.as_str(), want, "{setup}");
     }
+    Ok(())
+}
+
+#[test]
+fn hook_is_the_start_of_the_one_function_of_its_name(rt: HostRuntime) -> Result<(), Fail> {
+    let alloc = rt.alloc();
+    let image = read_image(alloc, TWO_FUNCTIONS.as_bytes())?;
+    let file = b"{\"vcpus\":1,\"ram\":4096,\"steps\":1,\"hook\":\"put\",\"name_at\":8}";
+    let setup = read_setup(alloc, file, &image)?;
+    assert!(rt;
+        setup.hook
+            == Some(Start {
+                range: 0,
+                offset: 12,
+            })
+    );
+    assert!(rt; setup.name_at == 8);
     Ok(())
 }
 

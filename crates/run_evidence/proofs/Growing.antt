@@ -8,14 +8,14 @@ use mathlib.Core.Logic.{dite}
 use native.Mathlib.Decide.{dec_lt}
 use Rattle.chain_log.specs.declared.entry.LogEntry.{LogEntry}
 use Rattle.function_table.specs.Groups.{group_at}
-use Rattle.guest_board.specs.Board.{State, may, next_of, step_of, counted}
-use Rattle.guest_board.proofs.Counting.{steps_count_one}
-use Rattle.run_evidence.specs.Config.{Config, groups_in, is_base, full, full_at, IsLawful, view_in, view_at, fetched_at}
-use Rattle.run_evidence.specs.Evidence.{is_logged, is_open, log_in}
-use Rattle.run_evidence.specs.Growing.{Begins, BoardsMove, LawfulGrows, FrontsAreLawful, StoppedStays, AllowedIsFromStart, AllowedFromStays, AllowedFromGrows, AllowedJoins}
+use Rattle.guest_board.specs.Board.{State, may, next_of}
+use Rattle.run_evidence.specs.Config.{Config, groups_in, rules_in, is_base, full, full_at, IsLawful, view_in, view_at, fetched_at}
+use Rattle.run_evidence.specs.Evidence.{AllJustified, is_logged, is_open, log_in}
+use Rattle.run_evidence.specs.Growing.{Begins, RunsAppend, BoardsMove, LawfulGrows, FrontsAreLawful, StoppedStays, AllowedIsFromStart, AllowedFromStays, AllowedFromGrows, AllowedJoins}
 use Rattle.run_evidence.specs.Stays.{JustifiedStays}
-use Rattle.run_evidence.proofs.Runs.{run_from-more, full_at-now, full_at-more, member-now, lawful-more}
+use Rattle.run_evidence.proofs.Runs.{run_from-append, run_from-more, full_at-now, full_at-more, member-now, lawful-more}
 use Rattle.run_evidence.proofs.Stable.{or-weaken}
+use Rattle.run_evidence.proofs.Steps.{stopped-step}
 
 -- what came before does not depend on what comes
 pub full_at-front : (c : Config) (schedule later : List ℕ) (t : ℕ) → t ≤ length schedule → full_at c (schedule ++ later) t ≡ full_at c schedule t
@@ -24,8 +24,11 @@ full_at-front c schedule later t within = ap (λ x. full c x) (take-append-le t 
 pub member-front : (schedule later : List ℕ) (t : ℕ) → t < length schedule → slice_index (schedule ++ later) t ≡ slice_index schedule t
 member-front schedule later t within = get_or_append_left schedule later 0 t within
 
+pub runs_append : RunsAppend
+runs_append c schedule later = run_from-append (rules_in c) _ schedule later
+
 pub boards_move : BoardsMove
-boards_move c schedule i = ap (λ (s : State). record { steps = c.setup.steps; state = s; schedule = schedule ++ i ∷ [] }) (run_from-more c.setup.steps _ schedule i)
+boards_move c schedule i = ap (λ (s : State). record { rules = rules_in c; state = s; schedule = schedule ++ i ∷ [] }) (run_from-more (rules_in c) _ schedule i)
 
 pub lawful_grows : LawfulGrows
 lawful_grows = lawful-more
@@ -91,38 +94,18 @@ allowed_from_grows c schedule i from logs all new t p low within next =
     let n : next_of (full c schedule) i ≡ Some p = rw (a, b) at next in
     rw (a, b) (subst (λ x. is_open c logs (view_in c (full c schedule) i) x (group_at (groups_in c) p) ≡ true) (sym last) (new p n)))
 
--- a vCPU that may not step
-middle : (a e d : Bool) → (a && e && d) ≡ true → e ≡ true
-middle true true d t = refl
-middle true false d t = absurd (let z : false ≡ true = t in cc)
-middle false e d t = absurd (let z : false ≡ true = t in cc)
-
-stuck_by : (a e d e' : Bool) → (a && e && d) ≡ false → e ≡ true → (a && e' && d) ≡ false
-stuck_by true true true e' t u = absurd (let z : true ≡ false = t in cc)
-stuck_by true true false true t u = refl
-stuck_by true true false false t u = refl
-stuck_by true false d e' t u = absurd (let z : false ≡ true = u in cc)
-stuck_by false e d e' t u = refl
-
--- it may not after another vCPU's step
-stopped_step : (steps : ℕ) (s : State) (i j : ℕ) → may steps s i ≡ false → may steps s j ≡ true → may steps (step_of steps s j) i ≡ false
-stopped_step steps s i j stuck goes =
-    let apart : i ≢ j = λ q. let z : may steps s i ≡ true = subst (λ (k : ℕ). may steps s k ≡ true) (sym q) goes in let y : true ≡ false = sym z ∙ stuck in cc in
-    let open_end : is_none s.end ≡ true = middle (nat_lt j (length s.vcpus)) (is_none s.end) (nat_lt (slice_index s.counts j) steps) goes in
-    let long : length (step_of steps s j).vcpus ≡ length s.vcpus = (steps_count_one steps s j).0 in
-    let counts : (step_of steps s j).counts ≡ counted s.counts j = (steps_count_one steps s j).1 in
-    let count : slice_index (step_of steps s j).counts i ≡ slice_index s.counts i = ap (λ z. slice_index z i) counts ∙ get_or-set_other s.counts j i (slice_index s.counts j + 1) 0 apart in
-    (λ k. nat_lt i (long k) && is_none (step_of steps s j).end && nat_lt (count k) steps)
-    ∙ stuck_by (nat_lt i (length s.vcpus)) (is_none s.end) (nat_lt (slice_index s.counts i) steps) (is_none (step_of steps s j).end) stuck open_end
-
 pub stopped_stays : StoppedStays
-stopped_stays c schedule [] i stuck lawful = subst (λ z. may c.setup.steps (full c z) i ≡ false) (sym (append-nil schedule)) stuck
+stopped_stays c schedule [] i stuck lawful = subst (λ z. may (rules_in c) (full c z) i ≡ false) (sym (append-nil schedule)) stuck
 stopped_stays c schedule (j ∷ later) i stuck lawful =
     let long = length-append schedule (j ∷ later) in
     let here = lawful (length schedule) (omega arith) in
     let state : full_at c (schedule ++ j ∷ later) (length schedule) ≡ full c schedule = full_at-front c schedule (j ∷ later) (length schedule) (omega arith) ∙ full_at-now c schedule in
     let who : slice_index (schedule ++ j ∷ later) (length schedule) ≡ j = get_or-append_seam schedule j later 0 in
-    let goes : may c.setup.steps (full c schedule) j ≡ true = subst (λ (k : ℕ). may c.setup.steps (full c schedule) k ≡ true) who (subst (λ (s : State). may c.setup.steps s (slice_index (schedule ++ j ∷ later) (length schedule)) ≡ true) state here) in
-    let next : may c.setup.steps (full c (schedule ++ j ∷ [])) i ≡ false = subst (λ (s : State). may c.setup.steps s i ≡ false) (sym (run_from-more c.setup.steps _ schedule j)) (stopped_step c.setup.steps (full c schedule) i j stuck goes) in
+    let goes : may (rules_in c) (full c schedule) j ≡ true = subst (λ (k : ℕ). may (rules_in c) (full c schedule) k ≡ true) who (subst (λ (s : State). may (rules_in c) s (slice_index (schedule ++ j ∷ later) (length schedule)) ≡ true) state here) in
+    let next : may (rules_in c) (full c (schedule ++ j ∷ [])) i ≡ false = subst (λ (s : State). may (rules_in c) s i ≡ false) (sym (run_from-more (rules_in c) _ schedule j)) (stopped-step (rules_in c) (full c schedule) i j stuck goes) in
     let whole : (schedule ++ j ∷ []) ++ later ≡ schedule ++ j ∷ later = append_assoc schedule (j ∷ []) later in
-    subst (λ z. may c.setup.steps (full c z) i ≡ false) whole (stopped_stays c (schedule ++ j ∷ []) later i next (subst (λ z. IsLawful c z) (sym whole) lawful))
+    subst (λ z. may (rules_in c) (full c z) i ≡ false) whole (stopped_stays c (schedule ++ j ∷ []) later i next (subst (λ z. IsLawful c z) (sym whole) lawful))
+
+pub all_justified_later : (c : Config) (schedule later : List ℕ) (log : List LogEntry) → AllJustified c schedule log → AllJustified c (schedule ++ later) log
+all_justified_later c schedule later [] all = tt
+all_justified_later c schedule later (e ∷ es) all = (justified_later c schedule later e all.0, all_justified_later c schedule later es all.1)

@@ -9,8 +9,9 @@ use Rattle.view_file.specs.declared.views.Views.{Views}
 use Rattle.view_file.specs.Named.{view_named}
 use Rattle.view_file.specs.Base.{base_of}
 use Rattle.view_file.specs.Fits.{IsViewsFor}
+use Rattle.guest_board.specs.declared.rules.Rules.{Rules}
 use Rattle.guest_board.specs.Board.{State, may, name_of, next_of, run_from}
-use Rattle.guest_board.specs.First.{first_state}
+use Rattle.guest_board.specs.First.{first_state, rules_of}
 
 -- an accepted image, with a setup and views that were accepted for it
 pub record Config : Type 0 where
@@ -30,9 +31,12 @@ groups_in c = groups_of c.image
 abbrev pub is_base : Config → ℕ → ℕ → Bool
 is_base c v g = slice_index_or (base_of c.views (groups_in c) v) g false
 
+abbrev pub rules_in : Config → Rules
+rules_in c = rules_of c.image c.setup
+
 -- the state of the full kernel after a schedule
 abbrev pub full : Config → List ℕ → State
-full c schedule = run_from c.setup.steps (first_state c.image c.setup) schedule
+full c schedule = run_from (rules_in c) (first_state c.image c.setup) schedule
 
 -- the state after the first t steps of a schedule
 abbrev pub full_at : Config → List ℕ → ℕ → State
@@ -40,7 +44,7 @@ full_at c schedule t = full c (take t schedule)
 
 -- each step of the schedule exists
 abbrev pub IsLawful : Config → List ℕ → Type 0
-IsLawful c schedule = (t : ℕ) → t < length schedule → may c.setup.steps (full_at c schedule t) (slice_index schedule t) ≡ true
+IsLawful c schedule = (t : ℕ) → t < length schedule → may (rules_in c) (full_at c schedule t) (slice_index schedule t) ≡ true
 
 -- the view of a vCPU: that of its app name, or the full view
 abbrev pub view_in : Config → State → ℕ → ℕ

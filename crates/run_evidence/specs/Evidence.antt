@@ -6,7 +6,7 @@ use Rattle.chain_log.specs.declared.entry.LogEntry.{LogEntry}
 use Rattle.chain_log.specs.Chain.{chain_of}
 use Rattle.function_table.specs.Groups.{group_at}
 use Rattle.guest_board.specs.Board.{State, may, next_of, vcpu_of}
-use Rattle.run_evidence.specs.Config.{Config, groups_in, is_base, full_at, view_in, fetched_at, view_at}
+use Rattle.run_evidence.specs.Config.{Config, groups_in, rules_in, is_base, full_at, view_in, fetched_at, view_at}
 
 -- the call chain of vCPU i in a state
 abbrev pub chain_in : State → ℕ → List ℕ
@@ -16,7 +16,7 @@ chain_in s i = chain_of s.ram (vcpu_of s i).csr (vcpu_of s i).mode (vcpu_of s i)
 -- place, its view the entry's; the group is that of the place and not in the base; the chain is that of the moment.
 pub record IsJustified (c : Config) (schedule : List ℕ) (e : LogEntry) : Type 0 where
   pub early : e.at ≤ length schedule
-  pub may_step : may c.setup.steps (full_at c schedule e.at) e.vcpu ≡ true
+  pub may_step : may (rules_in c) (full_at c schedule e.at) e.vcpu ≡ true
   pub next : next_of (full_at c schedule e.at) e.vcpu ≡ Some e.pc
   pub view : view_in c (full_at c schedule e.at) e.vcpu ≡ e.view
   pub group : e.group ≡ group_at (groups_in c) e.pc
@@ -30,6 +30,10 @@ AllJustified c schedule (e ∷ es) = IsJustified c schedule e × AllJustified c 
 -- the log of view v, where the logs stand by view
 abbrev pub log_in : List (List LogEntry) → ℕ → List LogEntry
 log_in logs v = slice_index_or logs v []
+
+-- every entry of every log is justified
+abbrev pub AreJustified : Config → List (List LogEntry) → List ℕ → Type 0
+AreJustified c logs schedule = (v : ℕ) → AllJustified c schedule (log_in logs v)
 
 -- logged by an entry whose trap came at a clock not above t
 abbrev pub is_logged : List LogEntry → ℕ → ℕ → Bool

@@ -5,8 +5,8 @@ use Rattle.guest_input.specs.Text.{bytes_of}
 use Rattle.function_table.specs.Groups.{group_at}
 use Rattle.view_file.specs.Base.{base_of}
 use Rattle.view_store.specs.Paged.{PagedView}
-use Rattle.guest_board.specs.Board.{Seat, may, moved, next_of, step_of}
-use Rattle.run_evidence.specs.Config.{Config, groups_in, full, IsLawful, view_in, fetched_at, view_at}
+use Rattle.guest_board.specs.Board.{Seat, may, moved, next_of, run_from, step_of}
+use Rattle.run_evidence.specs.Config.{Config, groups_in, rules_in, full, IsLawful, view_in, fetched_at, view_at}
 use Rattle.run_evidence.specs.Evidence.{IsAllowed, is_open, log_in}
 
 -- the second list begins with the first
@@ -15,7 +15,7 @@ Begins {X} xs ys = (rest : List X) × (ys ≡ xs ++ rest)
 
 -- the board after a schedule
 abbrev pub board_of : Config → List ℕ → Seat
-board_of c schedule = record { steps = c.setup.steps; state = full c schedule; schedule = schedule }
+board_of c schedule = record { rules = rules_in c; state = full c schedule; schedule = schedule }
 
 -- the full view, and one for each app
 abbrev pub views_count : Config → ℕ
@@ -30,13 +30,17 @@ abbrev pub IsAllowedFrom : Config → List (List LogEntry) → List ℕ → ℕ 
 IsAllowedFrom c logs schedule from = (t p : ℕ) → from ≤ t → t < length schedule → fetched_at c schedule t ≡ Some p
     → is_open c logs (view_at c schedule t) t (group_at (groups_in c) p) ≡ true
 
+-- the run of a schedule and what comes after it
+abbrev pub RunsAppend : Type 0
+RunsAppend = (c : Config) (schedule later : List ℕ) → full c (schedule ++ later) ≡ run_from (rules_in c) (full c schedule) later
+
 -- one more step moves the board
 abbrev pub BoardsMove : Type 0
-BoardsMove = (c : Config) (schedule : List ℕ) (i : ℕ) → board_of c (schedule ++ i ∷ []) ≡ moved (board_of c schedule) i (step_of c.setup.steps (full c schedule) i)
+BoardsMove = (c : Config) (schedule : List ℕ) (i : ℕ) → board_of c (schedule ++ i ∷ []) ≡ moved (board_of c schedule) i (step_of (rules_in c) (full c schedule) i)
 
 -- a lawful schedule with one more step that exists is lawful
 abbrev pub LawfulGrows : Type 0
-LawfulGrows = (c : Config) (schedule : List ℕ) (i : ℕ) → IsLawful c schedule → may c.setup.steps (full c schedule) i ≡ true → IsLawful c (schedule ++ i ∷ [])
+LawfulGrows = (c : Config) (schedule : List ℕ) (i : ℕ) → IsLawful c schedule → may (rules_in c) (full c schedule) i ≡ true → IsLawful c (schedule ++ i ∷ [])
 
 -- a front part of a lawful schedule is lawful
 abbrev pub FrontsAreLawful : Type 0
@@ -44,8 +48,8 @@ FrontsAreLawful = (c : Config) (schedule later : List ℕ) → IsLawful c (sched
 
 -- a vCPU that may not step may not after further steps
 abbrev pub StoppedStays : Type 0
-StoppedStays = (c : Config) (schedule later : List ℕ) (i : ℕ) → may c.setup.steps (full c schedule) i ≡ false → IsLawful c (schedule ++ later)
-    → may c.setup.steps (full c (schedule ++ later)) i ≡ false
+StoppedStays = (c : Config) (schedule later : List ℕ) (i : ℕ) → may (rules_in c) (full c schedule) i ≡ false → IsLawful c (schedule ++ later)
+    → may (rules_in c) (full c (schedule ++ later)) i ≡ false
 
 -- all fetches are allowed where those from step 0 on are
 abbrev pub AllowedIsFromStart : Type 0

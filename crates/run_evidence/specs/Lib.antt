@@ -3,3 +3,4 @@ pub mod Evidence
 pub mod Misses
 pub mod Stays
 pub mod Growing
+pub mod Sound

@@ -1,6 +1,6 @@
 //! That evidence stays evidence, and what grows with a schedule. Nothing here runs: each function has a law as its contract.
 
-ghost use Rattle.run_evidence.specs.Growing.{BoardsMove, LawfulGrows, FrontsAreLawful, StoppedStays, AllowedIsFromStart, AllowedFromStays, AllowedFromGrows, AllowedJoins};
+ghost use Rattle.run_evidence.specs.Growing.{RunsAppend, BoardsMove, LawfulGrows, FrontsAreLawful, StoppedStays, AllowedIsFromStart, AllowedFromStays, AllowedFromGrows, AllowedJoins};
 ghost use Rattle.run_evidence.specs.Stays.{JustifiedStays, AllowedStays};
 
 /// An entry that is justified stays so when the schedule grows.
@@ -13,6 +13,11 @@ pub fn justified_entries_stay()
 #[tactic(auto, using(crate::proofs::Staying::allowed_stays))]
 pub fn allowed_fetches_stay()
     ensures { AllowedStays }
+{}
+
+/// The run of a schedule and what comes after it is the second run from where the first one ends.
+pub fn runs_append()
+    ensures { RunsAppend }
 {}
 
 /// One more step of the schedule is one step of the board.

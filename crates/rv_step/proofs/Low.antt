@@ -1,6 +1,5 @@
 -- A place that an address leads to is in RAM and has the address's low 12 bits.
-use Rattle.std.proofs.Common.{◌≡◌, ℕ, zero, suc, ◌+◌, ◌*◌, ◌/◌, ◌%◌, ◌^◌, ◌∙◌, ◌==◌, Bool, true, false, not, if◌then◌else◌, List, arith, ap, refl, subst, add_comm}
-use Rattle.std.proofs.lemmas.Nat.{mod-pow-add}
+use Rattle.std.proofs.Common.{◌≡◌, ℕ, ◌%◌, Bool, true, false, if◌then◌else◌, List, arith, refl, subst}
 use Rattle.std.proofs.lemmas.Bool.Decides.{nat_tests}
 use Rattle.fc_numbers.specs.declared.machine.Access.{Access}
 use Rattle.fc_numbers.specs.declared.places.Span.{Span}
@@ -8,13 +7,13 @@ use Rattle.fc_numbers.specs.Spans.{in_text}
 use Rattle.fc_numbers.proofs.TextLaws.{places_above}
 use Rattle.gstage.specs.declared.stage.Placed.TheVariants as placed_in
 use Rattle.gstage.specs.Stage.{IsFor, in_span, placed}
-use Rattle.guest_ram.specs.Ram.{Ram, is_inside, is_text, value, IsLaid}
-use Rattle.sv39_walk.specs.declared.Asked.{Asked}
+use Rattle.guest_ram.specs.Ram.{Ram, is_inside, is_text, IsLaid}
 use Rattle.sv39_walk.specs.declared.Walked.{Walked}
 use Rattle.sv39_walk.specs.declared.Walked.TheVariants.{At, PageFault, AccessFault, TableInText}
-use Rattle.sv39_walk.specs.Walk.{asked, walked, KeepsLow}
+use Rattle.sv39_walk.specs.Walk.{asked, walked_for, KeepsLow}
 use Rattle.sv39_walk.proofs.LowBits.{low_walked}
 use Rattle.rv_csr.specs.Csr.{is_set}
+use Rattle.rv_csr.specs.declared.TheConstants.{MXR_BIT, SUM_BIT}
 use Rattle.rv_step.specs.declared.vcpu.Vcpu.{Vcpu}
 use Rattle.rv_step.specs.declared.resolve.Resolved.TheVariants as place
 use Rattle.rv_step.specs.Site.{resolved, resolve_walked, IsPlaced}
@@ -52,5 +51,5 @@ walked_is_placed ram va TableInText laid low = tt
 pub resolved_is_placed : (v : Vcpu) (ram : Ram) (access : Access) (va : ℕ) → IsLaid ram → IsPlaced ram va (resolved v ram access va)
 unfolding resolved
 resolved_is_placed v ram access va laid =
-    let q = asked v.mode (is_set v.csr.sstatus 18) (is_set v.csr.sstatus 19) access va in
-    walked_is_placed ram va (walked ram v.csr.satp q) laid (low_walked ram v.csr.satp q)
+    walked_is_placed ram va (walked_for ram v.csr v.mode access va) laid
+    (low_walked ram v.csr.satp (asked v.mode (is_set v.csr.sstatus SUM_BIT) (is_set v.csr.sstatus MXR_BIT) access va))

@@ -1,27 +1,30 @@
 -- Where an instruction traps or ends the run, it changed nothing.
 use Rattle.std.proofs.Common.{ℕ, Bool, true, false, if◌then◌else◌, Some, None, Result, Ok, Err, refl}
-use Rattle.fc_numbers.specs.declared.machine.Access.TheVariants.{Load, Store}
+use Rattle.fc_numbers.specs.declared.machine.Access.TheVariants as access
 use Rattle.fc_numbers.specs.declared.machine.Mode.{Mode}
 use Rattle.fc_numbers.specs.declared.machine.Mode.TheVariants.{Vu, Vs}
-use Rattle.fc_numbers.specs.declared.machine.Width.{Width}
 use Rattle.device_feed.specs.Calls.{called}
 use Rattle.device_feed.specs.declared.sbi.Sbi.{Sbi}
 use Rattle.device_feed.specs.declared.sbi.Sbi.TheVariants.{Done, Put, Shutdown}
 use Rattle.rv_decode.specs.declared.Inst.{Inst}
-use Rattle.rv_alu.specs.declared.AmoOp.{AmoOp}
 use Rattle.rv_csr.specs.declared.Illegal.{Illegal}
 use Rattle.rv_csr.specs.Csr.{csr_wrote}
-use Rattle.rv_kinds.specs.declared.CsrOp.{CsrOp}
+use Rattle.rv_kinds.specs.declared.Amo.{Amo}
+use Rattle.rv_kinds.specs.declared.CsrAccess.{CsrAccess}
+use Rattle.rv_kinds.specs.declared.Load.{Load}
+use Rattle.rv_kinds.specs.declared.LoadReserved.{LoadReserved}
+use Rattle.rv_kinds.specs.declared.Store.{Store}
+use Rattle.rv_kinds.specs.declared.StoreConditional.{StoreConditional}
 use Rattle.rv_kinds.specs.declared.Kind.{Kind}
 use Rattle.rv_kinds.specs.declared.Kind.TheVariants as kind
 use Rattle.rv_kinds.specs.Kinds.{kind_of}
 use Rattle.rv_step.specs.declared.vcpu.Vcpu.{Vcpu}
-use Rattle.rv_step.specs.declared.resolve.Resolved.{Resolved}
-use Rattle.rv_step.specs.declared.resolve.Resolved.TheVariants as place
 use Rattle.fc_numbers.specs.declared.machine.End.TheVariants.{Shutdown as Shut}
-use Rattle.rv_step.specs.declared.vcpu.Effect.TheVariants.{End as Ends}
-use Rattle.rv_step.specs.Site.{Site, Outcome, moved, after, next, OnVcpu, OnMemory, OnDevices, of_vcpu, of_memory, of_devices, resolved}
-use Rattle.rv_step.specs.Classes.{did_alu, did_put, did_jump, did_branch, did_nothing, did_load, did_store, did_amo, did_reserve, did_conditional, did_csr, did_call, did_return, did_fence, load_from, store_to, amo_at, reserve_at, conditional_at, is_aligned, is_reserved, csr_by, csr_value, call_in, return_in, fence_in}
+use Rattle.rv_step.specs.declared.vcpu.Effect.{Effect}
+use Rattle.rv_step.specs.declared.vcpu.Effect.TheVariants.{Next, Trap, End as Ends}
+use Rattle.rv_step.specs.Reach.{reached}
+use Rattle.rv_step.specs.Site.{Site, Outcome, moved, after, next, on_vcpu, on_memory, OnVcpu, OnMemory, OnDevices, of_vcpu, of_memory, of_devices}
+use Rattle.rv_step.specs.Classes.{did_alu, did_put, did_jump, did_branch, did_nothing, did_load, did_store, did_amo, did_reserve, did_conditional, did_csr, did_call, did_return, did_fence, load_from, store_to, amo_at, reserve_at, conditional_at, is_reserved, is_writing, csr_by, csr_value, call_in, return_in, fence_in}
 use Rattle.rv_step.specs.Executed.{did, done_by}
 use Rattle.rv_step.specs.Kept.{ChangesOnNextAlone}
 
@@ -46,78 +49,45 @@ choice_on_devices : (s : Site) (b : Bool) (x y : OnDevices) → IsFairOnDevices 
 choice_on_devices s true x y hx hy = hx
 choice_on_devices s false x y hx hy = hy
 
-load_from_is_fair : (s : Site) (len : ℕ) (width : Width) (signed : Bool) (rd at : ℕ) (r : Resolved) → IsFair s (load_from s.vcpu s.ram len width signed rd at r)
-load_from_is_fair s len width signed rd at (place.Ram p) = tt
-load_from_is_fair s len width signed rd at (place.Text p) = tt
-load_from_is_fair s len width signed rd at place.PageFault = record { vcpu = refl; ram = refl; devices = refl; put = refl }
-load_from_is_fair s len width signed rd at place.AccessFault = record { vcpu = refl; ram = refl; devices = refl; put = refl }
-load_from_is_fair s len width signed rd at place.TableInText = record { vcpu = refl; ram = refl; devices = refl; put = refl }
+-- what an access comes to that reaches no place
+came_to : (s : Site) (effect : Effect) → IsFair s (on_vcpu s.vcpu effect)
+came_to s (Next place) = tt
+came_to s (Trap cause tval) = record { vcpu = refl; ram = refl; devices = refl; put = refl }
+came_to s (Ends end) = record { vcpu = refl; ram = refl; devices = refl; put = refl }
 
-load_is_fair : (s : Site) (len : ℕ) (width : Width) (signed : Bool) (rd at : ℕ) → IsFair s (did_load s.vcpu s.ram len width signed rd at)
-unfolding did_load
-load_is_fair s len width signed rd at =
-    choice s (is_aligned at width) _ _ (load_from_is_fair s len width signed rd at (resolved s.vcpu s.ram Load at)) (record { vcpu = refl; ram = refl; devices = refl; put = refl })
+came_to_on_memory : (s : Site) (effect : Effect) → IsFairOnMemory s (on_memory s.vcpu s.ram effect)
+came_to_on_memory s (Next place) = tt
+came_to_on_memory s (Trap cause tval) = record { vcpu = refl; ram = refl; devices = refl; put = refl }
+came_to_on_memory s (Ends end) = record { vcpu = refl; ram = refl; devices = refl; put = refl }
 
-reserve_at_is_fair : (s : Site) (len : ℕ) (width : Width) (rd at : ℕ) (r : Resolved) → IsFair s (reserve_at s.vcpu s.ram len width rd at r)
-reserve_at_is_fair s len width rd at (place.Ram p) = tt
-reserve_at_is_fair s len width rd at (place.Text p) = tt
-reserve_at_is_fair s len width rd at place.PageFault = record { vcpu = refl; ram = refl; devices = refl; put = refl }
-reserve_at_is_fair s len width rd at place.AccessFault = record { vcpu = refl; ram = refl; devices = refl; put = refl }
-reserve_at_is_fair s len width rd at place.TableInText = record { vcpu = refl; ram = refl; devices = refl; put = refl }
+load_is_fair : (s : Site) (len : ℕ) (i : Load) (r : Result ℕ Effect) → IsFair s (load_from s.vcpu s.ram len i r)
+load_is_fair s len i (Ok p) = tt
+load_is_fair s len i (Err effect) = came_to s effect
 
-reserve_is_fair : (s : Site) (len : ℕ) (width : Width) (rd at : ℕ) → IsFair s (did_reserve s.vcpu s.ram len width rd at)
-unfolding did_reserve
-reserve_is_fair s len width rd at =
-    choice s (is_aligned at width) _ _ (reserve_at_is_fair s len width rd at (resolved s.vcpu s.ram Load at)) (record { vcpu = refl; ram = refl; devices = refl; put = refl })
+reserve_is_fair : (s : Site) (len : ℕ) (i : LoadReserved) (r : Result ℕ Effect) → IsFair s (reserve_at s.vcpu s.ram len i r)
+reserve_is_fair s len i (Ok p) = tt
+reserve_is_fair s len i (Err effect) = came_to s effect
 
-store_to_is_fair : (s : Site) (len : ℕ) (width : Width) (at x : ℕ) (r : Resolved) → IsFairOnMemory s (store_to s.vcpu s.ram len width at x r)
-store_to_is_fair s len width at x (place.Ram p) = tt
-store_to_is_fair s len width at x (place.Text p) = record { vcpu = refl; ram = refl; devices = refl; put = refl }
-store_to_is_fair s len width at x place.PageFault = record { vcpu = refl; ram = refl; devices = refl; put = refl }
-store_to_is_fair s len width at x place.AccessFault = record { vcpu = refl; ram = refl; devices = refl; put = refl }
-store_to_is_fair s len width at x place.TableInText = record { vcpu = refl; ram = refl; devices = refl; put = refl }
+store_is_fair : (s : Site) (len : ℕ) (i : Store) (r : Result ℕ Effect) → IsFairOnMemory s (store_to s.vcpu s.ram len i r)
+store_is_fair s len i (Ok p) = tt
+store_is_fair s len i (Err effect) = came_to_on_memory s effect
 
-store_is_fair : (s : Site) (len : ℕ) (width : Width) (at x : ℕ) → IsFairOnMemory s (did_store s.vcpu s.ram len width at x)
-unfolding did_store
-store_is_fair s len width at x =
-    choice_on_memory s (is_aligned at width) _ _ (store_to_is_fair s len width at x (resolved s.vcpu s.ram Store at)) (record { vcpu = refl; ram = refl; devices = refl; put = refl })
+amo_is_fair : (s : Site) (len : ℕ) (i : Amo) (r : Result ℕ Effect) → IsFairOnMemory s (amo_at s.vcpu s.ram len i r)
+amo_is_fair s len i (Ok p) = tt
+amo_is_fair s len i (Err effect) = came_to_on_memory s effect
 
-amo_at_is_fair : (s : Site) (len : ℕ) (op : AmoOp) (width : Width) (rd at x : ℕ) (r : Resolved) → IsFairOnMemory s (amo_at s.vcpu s.ram len op width rd at x r)
-amo_at_is_fair s len op width rd at x (place.Ram p) = tt
-amo_at_is_fair s len op width rd at x (place.Text p) = record { vcpu = refl; ram = refl; devices = refl; put = refl }
-amo_at_is_fair s len op width rd at x place.PageFault = record { vcpu = refl; ram = refl; devices = refl; put = refl }
-amo_at_is_fair s len op width rd at x place.AccessFault = record { vcpu = refl; ram = refl; devices = refl; put = refl }
-amo_at_is_fair s len op width rd at x place.TableInText = record { vcpu = refl; ram = refl; devices = refl; put = refl }
-
-amo_is_fair : (s : Site) (len : ℕ) (op : AmoOp) (width : Width) (rd at x : ℕ) → IsFairOnMemory s (did_amo s.vcpu s.ram len op width rd at x)
-unfolding did_amo
-amo_is_fair s len op width rd at x =
-    choice_on_memory s (is_aligned at width) _ _ (amo_at_is_fair s len op width rd at x (resolved s.vcpu s.ram Store at)) (record { vcpu = refl; ram = refl; devices = refl; put = refl })
-
-conditional_at_is_fair : (s : Site) (len : ℕ) (width : Width) (rd at x : ℕ) (r : Resolved) → IsFairOnMemory s (conditional_at s.vcpu s.ram len width rd at x r)
-conditional_at_is_fair s len width rd at x (place.Ram p) = choice_on_memory s (is_reserved s.vcpu.reserved p) _ _ tt tt
-conditional_at_is_fair s len width rd at x (place.Text p) = record { vcpu = refl; ram = refl; devices = refl; put = refl }
-conditional_at_is_fair s len width rd at x place.PageFault = record { vcpu = refl; ram = refl; devices = refl; put = refl }
-conditional_at_is_fair s len width rd at x place.AccessFault = record { vcpu = refl; ram = refl; devices = refl; put = refl }
-conditional_at_is_fair s len width rd at x place.TableInText = record { vcpu = refl; ram = refl; devices = refl; put = refl }
-
-conditional_is_fair : (s : Site) (len : ℕ) (width : Width) (rd at x : ℕ) → IsFairOnMemory s (did_conditional s.vcpu s.ram len width rd at x)
-unfolding did_conditional
-conditional_is_fair s len width rd at x =
-    choice_on_memory s (is_aligned at width) _ _ (conditional_at_is_fair s len width rd at x (resolved s.vcpu s.ram Store at)) (record { vcpu = refl; ram = refl; devices = refl; put = refl })
+conditional_is_fair : (s : Site) (len : ℕ) (i : StoreConditional) (r : Result ℕ Effect) → IsFairOnMemory s (conditional_at s.vcpu s.ram len i r)
+conditional_is_fair s len i (Ok p) = choice_on_memory s (is_reserved s.vcpu.reserved p) _ _ tt tt
+conditional_is_fair s len i (Err effect) = came_to_on_memory s effect
 
 written_is_fair : (s : Site) (r : Result (Unit {0}) Illegal) (x y : OnDevices) → IsFairOnDevices s x → IsFairOnDevices s y → IsFairOnDevices s (elim r [ Ok u ↦ x | Err e ↦ y ])
 written_is_fair s (Ok u) x y hx hy = hx
 written_is_fair s (Err e) x y hx hy = hy
 
-csr_by_is_fair : (s : Site) (len : ℕ) (op : CsrOp) (rd csr x : ℕ) (writes : Bool) (r : Result ℕ Illegal) → IsFairOnDevices s (csr_by s.vcpu s.devices len op rd csr x writes r)
-csr_by_is_fair s len op rd csr x writes (Err e) = record { vcpu = refl; ram = refl; devices = refl; put = refl }
-csr_by_is_fair s len op rd csr x writes (Ok old) =
-    choice_on_devices s writes _ _ (written_is_fair s (csr_wrote csr s.vcpu.mode) _ _ tt (record { vcpu = refl; ram = refl; devices = refl; put = refl })) tt
-
-csr_is_fair : (s : Site) (len : ℕ) (op : CsrOp) (rd csr x : ℕ) (writes : Bool) (clock : ℕ) → IsFairOnDevices s (did_csr s.vcpu s.devices len op rd csr x writes clock)
-unfolding did_csr
-csr_is_fair s len op rd csr x writes clock = csr_by_is_fair s len op rd csr x writes (csr_value s.vcpu s.devices csr clock)
+csr_by_is_fair : (s : Site) (len : ℕ) (i : CsrAccess) (r : Result ℕ Illegal) → IsFairOnDevices s (csr_by s.vcpu s.devices len i r)
+csr_by_is_fair s len i (Err e) = record { vcpu = refl; ram = refl; devices = refl; put = refl }
+csr_by_is_fair s len i (Ok old) =
+    choice_on_devices s (is_writing i.op i.source) _ _ (written_is_fair s (csr_wrote i.csr s.vcpu.mode) _ _ tt (record { vcpu = refl; ram = refl; devices = refl; put = refl })) tt
 
 answered_is_fair : (s : Site) (answer : Sbi) (done : Outcome) (put : ℕ → Outcome) (down : Outcome) → ChangesOnNextAlone s done → ((byte : ℕ) → ChangesOnNextAlone s (put byte)) → ChangesOnNextAlone s down → ChangesOnNextAlone s (elim answer [ Done ↦ done | Put byte ↦ put byte | Shutdown ↦ down ])
 answered_is_fair s Done done put down hd hp hs = hd
@@ -148,12 +118,11 @@ fence_in_is_fair Vu s len = record { vcpu = refl; ram = refl; devices = refl; pu
 fence_in_is_fair Vs s len = tt
 
 done_is_fair : (k : Kind) (len clock : ℕ) (s : Site) → ChangesOnNextAlone s (done_by k len clock s)
-unfolding done_by did_alu did_put did_jump did_branch did_nothing did_return did_fence
-done_is_fair (kind.Alu op rd rs1 rs2) len clock s = tt
-done_is_fair (kind.AluImm op rd rs1 imm) len clock s = tt
-done_is_fair (kind.Branch op rs1 rs2 imm) len clock s = tt
-done_is_fair (kind.Load width signed rd rs1 imm) len clock s = load_is_fair s len width signed rd _
-done_is_fair (kind.Store width rs1 rs2 imm) len clock s = store_is_fair s len width _ _
+unfolding done_by did_alu did_put did_jump did_branch did_nothing did_load did_store did_amo did_reserve did_conditional did_csr did_return did_fence
+done_is_fair (kind.Alu i) len clock s = tt
+done_is_fair (kind.Branch i) len clock s = tt
+done_is_fair (kind.Load i) len clock s = load_is_fair s len i (reached s.vcpu s.ram access.Load i.width _)
+done_is_fair (kind.Store i) len clock s = store_is_fair s len i (reached s.vcpu s.ram access.Store i.width _)
 done_is_fair (kind.Lui rd imm) len clock s = tt
 done_is_fair (kind.Auipc rd imm) len clock s = tt
 done_is_fair (kind.Jal rd imm) len clock s = tt
@@ -163,11 +132,10 @@ done_is_fair kind.Call len clock s = call_is_fair s len clock
 done_is_fair kind.Break len clock s = record { vcpu = refl; ram = refl; devices = refl; put = refl }
 done_is_fair kind.Return len clock s = return_in_is_fair s.vcpu.mode s
 done_is_fair kind.FenceVma len clock s = fence_in_is_fair s.vcpu.mode s len
-done_is_fair (kind.Csr op rd csr rs1) len clock s = csr_is_fair s len op rd csr _ _ clock
-done_is_fair (kind.CsrImm op rd csr imm) len clock s = csr_is_fair s len op rd csr _ _ clock
-done_is_fair (kind.Reserve width rd rs1) len clock s = reserve_is_fair s len width rd _
-done_is_fair (kind.Conditional width rd rs1 rs2) len clock s = conditional_is_fair s len width rd _ _
-done_is_fair (kind.Amo op width rd rs1 rs2) len clock s = amo_is_fair s len op width rd _ _
+done_is_fair (kind.Csr i) len clock s = csr_by_is_fair s len i (csr_value s.vcpu s.devices i.csr clock)
+done_is_fair (kind.Reserve i) len clock s = reserve_is_fair s len i (reached s.vcpu s.ram access.Load i.width _)
+done_is_fair (kind.Conditional i) len clock s = conditional_is_fair s len i (reached s.vcpu s.ram access.Store i.width _)
+done_is_fair (kind.Amo i) len clock s = amo_is_fair s len i (reached s.vcpu s.ram access.Store i.width _)
 
 pub did_changes_on_next : (inst : Inst) (len clock : ℕ) (s : Site) → ChangesOnNextAlone s (did inst len clock s)
 unfolding did

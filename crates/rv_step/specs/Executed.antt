@@ -3,19 +3,18 @@
 use Rattle.std.specs.Prelude.{ℕ, bit_and}
 use Rattle.rv_decode.specs.declared.Inst.{Inst}
 use Rattle.rv_kinds.specs.declared.Kind.{Kind}
-use Rattle.rv_kinds.specs.declared.Kind.TheVariants.{Alu, AluImm, Branch, Load, Store, Lui, Auipc, Jal, Jalr, Nothing, Call, Break, Return, FenceVma, Csr, CsrImm, Reserve, Conditional, Amo}
+use Rattle.rv_kinds.specs.declared.Kind.TheVariants.{Alu, Branch, Load, Store, Lui, Auipc, Jal, Jalr, Nothing, Call, Break, Return, FenceVma, Csr, Reserve, Conditional, Amo}
 use Rattle.rv_kinds.specs.Kinds.{kind_of}
 use Rattle.rv_step.specs.declared.causes.TheConstants.{BREAKPOINT}
 use Rattle.rv_step.specs.Site.{Site, Outcome, of_vcpu, of_memory, of_devices, reg_of, num, plus}
-use Rattle.rv_step.specs.Classes.{did_alu, did_put, did_jump, did_branch, did_nothing, did_load, did_store, did_amo, did_reserve, did_conditional, did_csr, did_call, did_return, did_fence, trapped, is_writing}
+use Rattle.rv_step.specs.Classes.{did_alu, did_put, did_jump, did_branch, did_nothing, did_load, did_store, did_amo, did_reserve, did_conditional, did_csr, did_call, did_return, did_fence, trapped}
 
 -- JALR clears bit 0 of its target; a jump's link and every next address count from the instruction's length
 unfoldable pub done_by : Kind → ℕ → ℕ → Site → Outcome
-done_by (Alu op rd rs1 rs2) len clock s = of_vcpu s (did_alu s.vcpu len op rd (reg_of s.vcpu rs1) (reg_of s.vcpu rs2))
-done_by (AluImm op rd rs1 imm) len clock s = of_vcpu s (did_alu s.vcpu len op rd (reg_of s.vcpu rs1) (num imm))
-done_by (Branch op rs1 rs2 imm) len clock s = of_vcpu s (did_branch s.vcpu len op rs1 rs2 imm)
-done_by (Load width signed rd rs1 imm) len clock s = of_vcpu s (did_load s.vcpu s.ram len width signed rd (plus (reg_of s.vcpu rs1) imm))
-done_by (Store width rs1 rs2 imm) len clock s = of_memory s (did_store s.vcpu s.ram len width (plus (reg_of s.vcpu rs1) imm) (reg_of s.vcpu rs2))
+done_by (Alu i) len clock s = of_vcpu s (did_alu s.vcpu len i)
+done_by (Branch i) len clock s = of_vcpu s (did_branch s.vcpu len i)
+done_by (Load i) len clock s = of_vcpu s (did_load s.vcpu s.ram len i)
+done_by (Store i) len clock s = of_memory s (did_store s.vcpu s.ram len i)
 done_by (Lui rd imm) len clock s = of_vcpu s (did_put s.vcpu len rd (num imm))
 done_by (Auipc rd imm) len clock s = of_vcpu s (did_put s.vcpu len rd (plus s.vcpu.pc imm))
 done_by (Jal rd imm) len clock s = of_vcpu s (did_jump s.vcpu len rd (plus s.vcpu.pc imm))
@@ -25,11 +24,10 @@ done_by Call len clock s = did_call s len clock
 done_by Break len clock s = of_vcpu s (trapped s.vcpu BREAKPOINT s.vcpu.pc)
 done_by Return len clock s = of_vcpu s (did_return s.vcpu)
 done_by FenceVma len clock s = of_vcpu s (did_fence s.vcpu len)
-done_by (Csr op rd csr rs1) len clock s = of_devices s (did_csr s.vcpu s.devices len op rd csr (reg_of s.vcpu rs1) (is_writing op rs1) clock)
-done_by (CsrImm op rd csr imm) len clock s = of_devices s (did_csr s.vcpu s.devices len op rd csr (num imm) (is_writing op (num imm)) clock)
-done_by (Reserve width rd rs1) len clock s = of_vcpu s (did_reserve s.vcpu s.ram len width rd (reg_of s.vcpu rs1))
-done_by (Conditional width rd rs1 rs2) len clock s = of_memory s (did_conditional s.vcpu s.ram len width rd (reg_of s.vcpu rs1) (reg_of s.vcpu rs2))
-done_by (Amo op width rd rs1 rs2) len clock s = of_memory s (did_amo s.vcpu s.ram len op width rd (reg_of s.vcpu rs1) (reg_of s.vcpu rs2))
+done_by (Csr i) len clock s = of_devices s (did_csr s.vcpu s.devices len i clock)
+done_by (Reserve i) len clock s = of_vcpu s (did_reserve s.vcpu s.ram len i)
+done_by (Conditional i) len clock s = of_memory s (did_conditional s.vcpu s.ram len i)
+done_by (Amo i) len clock s = of_memory s (did_amo s.vcpu s.ram len i)
 
 -- one instruction of so many bytes at this clock
 unfoldable pub did : Inst → ℕ → ℕ → Site → Outcome

@@ -1,15 +1,16 @@
--- Where an instruction acts, what it leaves, and where an address leads by both stages of translation.
--- An access first goes through the guest's own tables; then kernel text is told from other RAM, and what is neither is an access fault.
+-- Where an instruction acts, what it leaves, and where an address leads.
+-- An address first goes through the guest's own tables; then kernel text is told from other RAM, and what is neither is an access fault.
 use Rattle.std.specs.Prelude.{◌≡◌, ℕ, ◌+◌, ◌%◌, ◌^◌, true, false, if◌then◌else◌, Option, None, ℤ}
 use Rattle.std.specs.Int.{w64, cast_unsigned}
 use Rattle.fc_numbers.specs.Numbers.{get_reg, set_reg}
 use Rattle.fc_numbers.specs.declared.machine.Access.{Access}
 use Rattle.guest_ram.specs.Ram.{Ram, is_inside, is_text}
 use Rattle.device_feed.specs.Devices.{Devices}
-use Rattle.rv_csr.specs.Csr.{is_set}
 use Rattle.sv39_walk.specs.declared.Walked.{Walked}
 use Rattle.sv39_walk.specs.declared.Walked.TheVariants.{At, PageFault, AccessFault, TableInText}
-use Rattle.sv39_walk.specs.Walk.{walked, asked}
+use Rattle.sv39_walk.specs.Walk.{walked_for}
+use Rattle.rv_kinds.specs.declared.Source.{Source}
+use Rattle.rv_kinds.specs.declared.Source.TheVariants.{Register, Number}
 use Rattle.rv_step.specs.declared.vcpu.Vcpu.{Vcpu}
 use Rattle.rv_step.specs.declared.vcpu.Effect.{Effect}
 use Rattle.rv_step.specs.declared.vcpu.Effect.TheVariants.{Next}
@@ -76,6 +77,18 @@ moved v pc = record v { pc = pc }
 abbrev pub after : Vcpu → ℕ → ℕ
 after v len = (v.pc + len) % 2 ^ 64
 
+-- an immediate as a number of 64 bits, and an address with one added
+abbrev pub num : ℤ → ℕ
+num imm = cast_unsigned w64 imm
+
+abbrev pub plus : ℕ → ℤ → ℕ
+plus a imm = (a + num imm) % 2 ^ 64
+
+-- a source: the register that it names, or its number
+abbrev pub source_value : Vcpu → Source → ℕ
+source_value v (Register n) = reg_of v n
+source_value v (Number imm) = num imm
+
 -- rd holds x, and pc stands at the next instruction
 abbrev pub wrote : Vcpu → ℕ → ℕ → ℕ → Vcpu
 wrote v len rd x = record v { regs = set_reg v.regs (rd % 32) x; pc = after v len }
@@ -84,23 +97,16 @@ wrote v len rd x = record v { regs = set_reg v.regs (rd % 32) x; pc = after v le
 abbrev pub next : Effect
 next = Next None
 
--- an immediate as a number of 64 bits, and an address with one added
-abbrev pub num : ℤ → ℕ
-num imm = cast_unsigned w64 imm
-
-abbrev pub plus : ℕ → ℤ → ℕ
-plus a imm = (a + num imm) % 2 ^ 64
-
 abbrev pub resolve_walked : Ram → Walked → Resolved
 resolve_walked ram (At p) = if is_text ram p then place.Text p else if is_inside ram p then place.Ram p else place.AccessFault
 resolve_walked ram PageFault = place.PageFault
 resolve_walked ram AccessFault = place.AccessFault
 resolve_walked ram TableInText = place.TableInText
 
--- where an address leads; SUM and MXR are bits 18 and 19 of sstatus
+-- where an address leads, in the vCPU's mode and by its control registers
 unfoldable pub resolved : Vcpu → Ram → Access → ℕ → Resolved
 resolved v ram access va =
-    resolve_walked ram (walked ram v.csr.satp (asked v.mode (is_set v.csr.sstatus 18) (is_set v.csr.sstatus 19) access va))
+    resolve_walked ram (walked_for ram v.csr v.mode access va)
 
 -- a place that an address leads to is in RAM and has the address's low 12 bits
 abbrev pub IsPlaced : Ram → ℕ → Resolved → Type 0

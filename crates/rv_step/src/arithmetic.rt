@@ -2,19 +2,22 @@
 
 ghost use Rattle.std.specs.Prelude.{◌≡◌, ◌+◌, ◌%◌, ◌^◌, ◌<◌, None};
 ghost use Rattle.rv_alu.specs.Alu.{alu_of, branch_of};
-ghost use Rattle.rv_step.specs.Site.{OnVcpu, reg_of, wrote, moved, after, plus};
+ghost use Rattle.rv_step.specs.Site.{OnVcpu, reg_of, source_value, wrote, moved, after, plus};
 ghost use Rattle.rv_step.specs.Classes.{did_alu, did_put, did_jump, did_branch, did_nothing};
 
-use crate::vcpu::{Effect, Vcpu, following, register, write_back};
+use crate::vcpu::{Effect, Vcpu, following, register, relative, source_value, write_back};
 use fc_numbers::places::Va;
-use rv_alu::{AluOp, BranchOp, alu, branch};
+use rv_alu::{alu, branch};
+use rv_kinds::{Alu, Branch};
 
-/// Arithmetic on two numbers.
+/// Arithmetic on a register and a source.
 #[tactic(auto, unfolding(crate::specs::Classes::did_alu))]
-pub(crate) fn do_alu(vcpu: &mut Vcpu, len: u8, op: AluOp, rd: u8, a: u64, b: u64) -> Effect
-    ensures { let made : OnVcpu = record { vcpu = vcpu.new; effect = result } in made ≡ did_alu vcpu.old len op rd a b }
+pub(crate) fn do_alu(vcpu: &mut Vcpu, len: u8, inst: Alu) -> Effect
+    ensures { let made : OnVcpu = record { vcpu = vcpu.new; effect = result } in made ≡ did_alu vcpu.old len inst }
 {
-    write_back(vcpu, len, rd, alu(op, a, b));
+    let a = register(vcpu, inst.rs1);
+    let b = source_value(vcpu, inst.source);
+    write_back(vcpu, len, inst.rd, alu(inst.op, a, b));
     Effect::Next { wrote: None }
 }
 
@@ -40,18 +43,13 @@ pub(crate) fn do_jump(vcpu: &mut Vcpu, len: u8, rd: u8, to: u64) -> Effect
 
 /// A branch on two registers.
 #[tactic(auto, unfolding(crate::specs::Classes::did_branch))]
-pub(crate) fn do_branch(
-    vcpu: &mut Vcpu,
-    len: u8,
-    op: BranchOp,
-    rs1: u8,
-    rs2: u8,
-    imm: i64,
-) -> Effect
-    ensures { let made : OnVcpu = record { vcpu = vcpu.new; effect = result } in made ≡ did_branch vcpu.old len op rs1 rs2 imm }
+pub(crate) fn do_branch(vcpu: &mut Vcpu, len: u8, inst: Branch) -> Effect
+    ensures { let made : OnVcpu = record { vcpu = vcpu.new; effect = result } in made ≡ did_branch vcpu.old len inst }
 {
-    let to = if branch(op, register(vcpu, rs1), register(vcpu, rs2)) {
-        vcpu.pc.0.wrapping_add(imm.cast_unsigned())
+    let a = register(vcpu, inst.rs1);
+    let b = register(vcpu, inst.rs2);
+    let to = if branch(inst.op, a, b) {
+        relative(vcpu, inst.imm)
     } else {
         following(vcpu, len)
     };

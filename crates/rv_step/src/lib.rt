@@ -2,7 +2,7 @@
 //!
 //! - [`vcpu`]: a vCPU, and what an instruction comes to.
 //! - [`causes`]: the causes of exceptions.
-//! - [`resolve`]: where an address leads by both stages of translation.
+//! - [`resolve`]: where an address leads; `reach`: the place that an access reaches.
 //! - [`arithmetic`], [`memory`], [`system`]: what each class of instructions does.
 //! - [`execute`]: one instruction, after its fetch.
 //! - [`laws`]: what holds whatever is executed.
@@ -20,6 +20,7 @@ pub mod causes;
 pub mod execute;
 pub mod laws;
 pub mod memory;
+mod reach;
 pub mod resolve;
 pub mod system;
 #[cfg(test)]

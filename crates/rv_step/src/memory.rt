@@ -1,38 +1,26 @@
 //! Loads, stores and atomic operations.
 
 ghost use Rattle.std.specs.Prelude.{◌≡◌, ◌<◌, ◌≤◌, ◌+◌, ◌-◌, ◌*◌, ◌%◌, ◌^◌, true, false, None, Some, nat_lt, if◌then◌else◌};
-ghost use Rattle.fc_numbers.specs.declared.machine.Access.TheVariants.{Load, Store};
-ghost use Rattle.fc_numbers.specs.declared.places.TheConstants.{PAGE};
 ghost use Rattle.fc_numbers.specs.Numbers.{sext_of, sext_from};
 ghost use Rattle.gstage.specs.Stage.{IsFor};
 ghost use Rattle.guest_ram.specs.Value.{count_of};
 ghost use Rattle.guest_ram.specs.Ram.{is_inside, is_text, value, with_value, CanStore, frame_of, stamp_of};
 ghost use Rattle.rv_alu.specs.Alu.{amo_of};
-ghost use Rattle.rv_step.specs.Site.{resolved, IsPlaced, OnVcpu, OnMemory, wrote, moved, after};
-ghost use Rattle.rv_step.specs.Classes.{did_load, did_store, did_amo, did_reserve, did_conditional, extended, load_from, store_to, amo_at, reserve_at, conditional_at, is_aligned, word_of, is_reserved};
+ghost use Rattle.sv39_walk.specs.Cache.{Fits, KeepsFits};
+ghost use Rattle.rv_step.specs.Reach.{reached, IsReached};
+ghost use Rattle.rv_step.specs.Site.{OnVcpu, OnMemory, wrote, moved, after};
+ghost use Rattle.rv_step.specs.Classes.{did_load, did_store, did_amo, did_reserve, did_conditional, extended, load_from, store_to, amo_at, reserve_at, conditional_at, doubleword_of, is_reserved};
 
-use crate::causes::{
-    LOAD_ACCESS_FAULT, LOAD_MISALIGNED, LOAD_PAGE_FAULT, STORE_ACCESS_FAULT, STORE_MISALIGNED,
-    STORE_PAGE_FAULT,
-};
-use crate::resolve::{Resolved, resolve};
-use crate::vcpu::{Effect, Vcpu, following, write_back};
-use fc_numbers::machine::{Access, End, Stop, Width};
+use crate::reach::reach;
+use crate::vcpu::{Effect, Vcpu, address, following, register, write_back};
+use fc_numbers::machine::{Access, Width};
 use fc_numbers::places::{Gpa, Va};
 use gstage::stage::SecondStage;
 use guest_ram::GuestRam;
-use rv_alu::{AmoOp, amo};
-
-fn is_whole(at: u64, width: Width) -> bool
-    ensures { result ≡ is_aligned at width }
-{
-    match width {
-        Width::Byte => true,
-        Width::Halfword => at % 2 == 0,
-        Width::Word => at % 4 == 0,
-        Width::Doubleword => at % 8 == 0,
-    }
-}
+use rv_alu::amo;
+use rv_kinds::{Amo, Load, LoadReserved, Sign, Store, StoreConditional};
+use sv39_walk::cache::WalkCache;
+use sv39_walk::laws::stores_keep_fits;
 
 /// A number of fewer bits than 64, of which there are `size`, sign-extended.
 fn extend_low(size: u64, sign: u64, low: u64) -> u64
@@ -48,10 +36,10 @@ fn extend_low(size: u64, sign: u64, low: u64) -> u64
     }
 }
 
-fn extend(width: Width, signed: bool, x: u64) -> u64
-    ensures { result ≡ extended width signed x }
+fn extend(width: Width, sign: Sign, x: u64) -> u64
+    ensures { result ≡ extended width sign x }
 {
-    if !signed {
+    if sign == Sign::Unsigned {
         return x;
     }
     match width {
@@ -62,31 +50,33 @@ fn extend(width: Width, signed: bool, x: u64) -> u64
     }
 }
 
-/// The number at a place that the aligned address led to.
-#[tactic(auto, using(crate::proofs::Aligned::aligned))]
-fn number_at(ram: &GuestRam, place: Gpa, width: Width, at: u64) -> u64
+/// The number at a place of memory.
+fn number_at(ram: &GuestRam, place: Gpa, width: Width) -> u64
     requires inside { is_inside ram.now place ≡ true }
-    requires aligned { is_aligned at width ≡ true }
-    requires low { place % 4096 ≡ at % 4096 }
+    requires aligned { place % count_of width ≡ 0 }
     ensures { result ≡ value ram.now place width }
 {
-    match ram.load(place, width) {
-        Ok(x) => x,
-        Err(_) => 0,
-    }
+    let Ok(number) = ram.load(place, width) else {
+        unreachable!()
+    };
+    number
 }
 
-/// Stores at a place that the aligned address led to.
-#[tactic(auto, using(crate::proofs::Aligned::aligned))]
-fn put_at(ram: &mut GuestRam, place: Gpa, width: Width, at: u64, x: u64)
+/// Stores at a place of memory outside text. Every cache that fitted the memory fits it afterwards.
+fn put_at(ram: &mut GuestRam, place: Gpa, width: Width, x: u64)
     requires inside { is_inside ram.old place ≡ true }
+    requires aligned { place % count_of width ≡ 0 }
     requires free { is_text ram.old place ≡ false }
-    requires aligned { is_aligned at width ≡ true }
-    requires low { place % 4096 ≡ at % 4096 }
     requires stamp { CanStore ram.old }
-    ensures { ram.new ≡ with_value ram.old place width x }
+    ensures after { ram.new ≡ with_value ram.old place width x }
+    ensures fits { KeepsFits ram.old ram.new }
 {
-    let _done = ram.store(place, width, x);
+    // The call says that the memory is laid out with its text in it.
+    let _laid = ram.text();
+    stores_keep_fits();
+    let Ok(()) = ram.store(place, width, x) else {
+        unreachable!()
+    };
 }
 
 /// A load.
@@ -94,42 +84,24 @@ fn put_at(ram: &mut GuestRam, place: Gpa, width: Width, at: u64, x: u64)
 pub(crate) fn do_load<S: SecondStage>(
     vcpu: &mut Vcpu,
     ram: &GuestRam,
+    cache: &mut WalkCache,
     stage: &S,
     len: u8,
-    width: Width,
-    signed: bool,
-    rd: u8,
-    at: u64,
+    inst: Load,
 ) -> Effect
-    requires { IsFor (S.text stage.now) (S.ram stage.now) ram.now }
-    ensures { let made : OnVcpu = record { vcpu = vcpu.new; effect = result } in made ≡ did_load vcpu.old ram.now len width signed rd at }
+    requires stage { IsFor (S.text stage.now) (S.ram stage.now) ram.now }
+    requires fits { Fits ram.now cache.old }
+    ensures made { let made : OnVcpu = record { vcpu = vcpu.new; effect = result } in made ≡ did_load vcpu.old ram.now len inst }
+    ensures fits { Fits ram.now cache.new }
 {
-    if !is_whole(at, width) {
-        return Effect::Trap {
-            cause: LOAD_MISALIGNED,
-            tval: at,
-        };
-    }
-    match resolve(vcpu, ram, stage, Access::Load, Va(at)) {
-        Resolved::Ram(place) => {
-            let x = number_at(ram, place, width, at);
-            write_back(vcpu, len, rd, extend(width, signed, x));
+    let at = address(vcpu, inst.rs1, inst.imm);
+    match reach(vcpu, ram, cache, stage, Access::Load, inst.width, at) {
+        Ok(place) => {
+            let x = number_at(ram, place, inst.width);
+            write_back(vcpu, len, inst.rd, extend(inst.width, inst.sign, x));
             Effect::Next { wrote: None }
         }
-        Resolved::Text(place) => {
-            let x = number_at(ram, place, width, at);
-            write_back(vcpu, len, rd, extend(width, signed, x));
-            Effect::Next { wrote: None }
-        }
-        Resolved::PageFault => Effect::Trap {
-            cause: LOAD_PAGE_FAULT,
-            tval: at,
-        },
-        Resolved::AccessFault => Effect::Trap {
-            cause: LOAD_ACCESS_FAULT,
-            tval: at,
-        },
-        Resolved::TableInText => Effect::End(End::Stopped(Stop::TableInText)),
+        Err(effect) => effect,
     }
 }
 
@@ -138,39 +110,27 @@ pub(crate) fn do_load<S: SecondStage>(
 pub(crate) fn do_store<S: SecondStage>(
     vcpu: &mut Vcpu,
     ram: &mut GuestRam,
+    cache: &mut WalkCache,
     stage: &S,
     len: u8,
-    width: Width,
-    at: u64,
-    x: u64,
+    inst: Store,
 ) -> Effect
     requires stage { IsFor (S.text stage.now) (S.ram stage.now) ram.old }
     requires stamp { CanStore ram.old }
-    ensures { let made : OnMemory = record { vcpu = vcpu.new; ram = ram.new; effect = result } in made ≡ did_store vcpu.old ram.old len width at x }
+    requires fits { Fits ram.old cache.old }
+    ensures made { let made : OnMemory = record { vcpu = vcpu.new; ram = ram.new; effect = result } in made ≡ did_store vcpu.old ram.old len inst }
+    ensures fits { Fits ram.new cache.new }
+    ensures others { KeepsFits ram.old ram.new }
 {
-    if !is_whole(at, width) {
-        return Effect::Trap {
-            cause: STORE_MISALIGNED,
-            tval: at,
-        };
-    }
-    match resolve(vcpu, ram, stage, Access::Store, Va(at)) {
-        Resolved::Ram(place) => {
-            put_at(ram, place, width, at, x);
+    let at = address(vcpu, inst.rs1, inst.imm);
+    match reach(vcpu, ram, cache, stage, Access::Store, inst.width, at) {
+        Ok(place) => {
+            put_at(ram, place, inst.width, register(vcpu, inst.rs2));
             let to = following(vcpu, len);
             vcpu.pc = Va(to);
             Effect::Next { wrote: Some(place) }
         }
-        Resolved::Text(_) => Effect::End(End::Stopped(Stop::StoreToText)),
-        Resolved::PageFault => Effect::Trap {
-            cause: STORE_PAGE_FAULT,
-            tval: at,
-        },
-        Resolved::AccessFault => Effect::Trap {
-            cause: STORE_ACCESS_FAULT,
-            tval: at,
-        },
-        Resolved::TableInText => Effect::End(End::Stopped(Stop::TableInText)),
+        Err(effect) => effect,
     }
 }
 
@@ -179,57 +139,44 @@ pub(crate) fn do_store<S: SecondStage>(
 pub(crate) fn do_amo<S: SecondStage>(
     vcpu: &mut Vcpu,
     ram: &mut GuestRam,
+    cache: &mut WalkCache,
     stage: &S,
     len: u8,
-    op: AmoOp,
-    width: Width,
-    rd: u8,
-    at: u64,
-    x: u64,
+    inst: Amo,
 ) -> Effect
     requires stage { IsFor (S.text stage.now) (S.ram stage.now) ram.old }
     requires stamp { CanStore ram.old }
-    ensures { let made : OnMemory = record { vcpu = vcpu.new; ram = ram.new; effect = result } in made ≡ did_amo vcpu.old ram.old len op width rd at x }
+    requires fits { Fits ram.old cache.old }
+    ensures made { let made : OnMemory = record { vcpu = vcpu.new; ram = ram.new; effect = result } in made ≡ did_amo vcpu.old ram.old len inst }
+    ensures fits { Fits ram.new cache.new }
+    ensures others { KeepsFits ram.old ram.new }
 {
-    if !is_whole(at, width) {
-        return Effect::Trap {
-            cause: STORE_MISALIGNED,
-            tval: at,
-        };
-    }
-    match resolve(vcpu, ram, stage, Access::Store, Va(at)) {
-        Resolved::Ram(place) => {
-            let old = number_at(ram, place, width, at);
-            put_at(ram, place, width, at, amo(op, width, old, x));
-            write_back(vcpu, len, rd, extend(width, true, old));
+    let at = register(vcpu, inst.rs1);
+    match reach(vcpu, ram, cache, stage, Access::Store, inst.width, at) {
+        Ok(place) => {
+            let old = number_at(ram, place, inst.width);
+            let new = amo(inst.op, inst.width, old, register(vcpu, inst.rs2));
+            put_at(ram, place, inst.width, new);
+            write_back(vcpu, len, inst.rd, extend(inst.width, Sign::Signed, old));
             Effect::Next { wrote: Some(place) }
         }
-        Resolved::Text(_) => Effect::End(End::Stopped(Stop::StoreToText)),
-        Resolved::PageFault => Effect::Trap {
-            cause: STORE_PAGE_FAULT,
-            tval: at,
-        },
-        Resolved::AccessFault => Effect::Trap {
-            cause: STORE_ACCESS_FAULT,
-            tval: at,
-        },
-        Resolved::TableInText => Effect::End(End::Stopped(Stop::TableInText)),
+        Err(effect) => effect,
     }
 }
 
 /// The aligned 8 bytes that a place is in.
-fn word(place: Gpa) -> Gpa
-    ensures { result ≡ word_of place }
+fn doubleword(place: Gpa) -> Gpa
+    ensures { result ≡ doubleword_of place }
 {
     Gpa(place.0 - place.0 % 8)
 }
 
-fn reserves(reserved: Option<Gpa>, place: Gpa) -> bool
+fn is_reserved(reserved: Option<Gpa>, place: Gpa) -> bool
     ensures { result ≡ is_reserved reserved place }
 {
     match reserved {
         None => false,
-        Some(at) => at.0 == word(place).0,
+        Some(at) => at.0 == doubleword(place).0,
     }
 }
 
@@ -238,43 +185,25 @@ fn reserves(reserved: Option<Gpa>, place: Gpa) -> bool
 pub(crate) fn do_reserve<S: SecondStage>(
     vcpu: &mut Vcpu,
     ram: &GuestRam,
+    cache: &mut WalkCache,
     stage: &S,
     len: u8,
-    width: Width,
-    rd: u8,
-    at: u64,
+    inst: LoadReserved,
 ) -> Effect
-    requires { IsFor (S.text stage.now) (S.ram stage.now) ram.now }
-    ensures { let made : OnVcpu = record { vcpu = vcpu.new; effect = result } in made ≡ did_reserve vcpu.old ram.now len width rd at }
+    requires stage { IsFor (S.text stage.now) (S.ram stage.now) ram.now }
+    requires fits { Fits ram.now cache.old }
+    ensures made { let made : OnVcpu = record { vcpu = vcpu.new; effect = result } in made ≡ did_reserve vcpu.old ram.now len inst }
+    ensures fits { Fits ram.now cache.new }
 {
-    if !is_whole(at, width) {
-        return Effect::Trap {
-            cause: LOAD_MISALIGNED,
-            tval: at,
-        };
-    }
-    match resolve(vcpu, ram, stage, Access::Load, Va(at)) {
-        Resolved::Ram(place) => {
-            let x = number_at(ram, place, width, at);
-            write_back(vcpu, len, rd, extend(width, true, x));
-            vcpu.reserved = Some(word(place));
+    let at = register(vcpu, inst.rs1);
+    match reach(vcpu, ram, cache, stage, Access::Load, inst.width, at) {
+        Ok(place) => {
+            let x = number_at(ram, place, inst.width);
+            write_back(vcpu, len, inst.rd, extend(inst.width, Sign::Signed, x));
+            vcpu.reserved = Some(doubleword(place));
             Effect::Next { wrote: None }
         }
-        Resolved::Text(place) => {
-            let x = number_at(ram, place, width, at);
-            write_back(vcpu, len, rd, extend(width, true, x));
-            vcpu.reserved = Some(word(place));
-            Effect::Next { wrote: None }
-        }
-        Resolved::PageFault => Effect::Trap {
-            cause: LOAD_PAGE_FAULT,
-            tval: at,
-        },
-        Resolved::AccessFault => Effect::Trap {
-            cause: LOAD_ACCESS_FAULT,
-            tval: at,
-        },
-        Resolved::TableInText => Effect::End(End::Stopped(Stop::TableInText)),
+        Err(effect) => effect,
     }
 }
 
@@ -283,45 +212,32 @@ pub(crate) fn do_reserve<S: SecondStage>(
 pub(crate) fn do_conditional<S: SecondStage>(
     vcpu: &mut Vcpu,
     ram: &mut GuestRam,
+    cache: &mut WalkCache,
     stage: &S,
     len: u8,
-    width: Width,
-    rd: u8,
-    at: u64,
-    x: u64,
+    inst: StoreConditional,
 ) -> Effect
     requires stage { IsFor (S.text stage.now) (S.ram stage.now) ram.old }
     requires stamp { CanStore ram.old }
-    ensures { let made : OnMemory = record { vcpu = vcpu.new; ram = ram.new; effect = result } in made ≡ did_conditional vcpu.old ram.old len width rd at x }
+    requires fits { Fits ram.old cache.old }
+    ensures made { let made : OnMemory = record { vcpu = vcpu.new; ram = ram.new; effect = result } in made ≡ did_conditional vcpu.old ram.old len inst }
+    ensures fits { Fits ram.new cache.new }
+    ensures others { KeepsFits ram.old ram.new }
 {
-    if !is_whole(at, width) {
-        return Effect::Trap {
-            cause: STORE_MISALIGNED,
-            tval: at,
-        };
-    }
-    match resolve(vcpu, ram, stage, Access::Store, Va(at)) {
-        Resolved::Ram(place) => {
-            if reserves(vcpu.reserved, place) {
-                put_at(ram, place, width, at, x);
-                write_back(vcpu, len, rd, 0);
+    let at = register(vcpu, inst.rs1);
+    match reach(vcpu, ram, cache, stage, Access::Store, inst.width, at) {
+        Ok(place) => {
+            if is_reserved(vcpu.reserved, place) {
+                put_at(ram, place, inst.width, register(vcpu, inst.rs2));
+                write_back(vcpu, len, inst.rd, 0);
                 vcpu.reserved = None;
                 Effect::Next { wrote: Some(place) }
             } else {
-                write_back(vcpu, len, rd, 1);
+                write_back(vcpu, len, inst.rd, 1);
                 vcpu.reserved = None;
                 Effect::Next { wrote: None }
             }
         }
-        Resolved::Text(_) => Effect::End(End::Stopped(Stop::StoreToText)),
-        Resolved::PageFault => Effect::Trap {
-            cause: STORE_PAGE_FAULT,
-            tval: at,
-        },
-        Resolved::AccessFault => Effect::Trap {
-            cause: STORE_ACCESS_FAULT,
-            tval: at,
-        },
-        Resolved::TableInText => Effect::End(End::Stopped(Stop::TableInText)),
+        Err(effect) => effect,
     }
 }

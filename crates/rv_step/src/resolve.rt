@@ -1,11 +1,10 @@
-//! Where an address leads by both stages of translation.
+//! Where an address leads.
 
 ghost use Rattle.std.specs.Prelude.{◌≡◌, ◌≤◌, ◌<◌, ◌%◌, ◌^◌, true, false};
-ghost use Rattle.fc_numbers.specs.declared.places.TheConstants.{PAGE};
 ghost use Rattle.gstage.specs.Stage.{IsFor};
 ghost use Rattle.guest_ram.specs.Ram.{is_inside, is_text, IsLaid};
-ghost use Rattle.sv39_walk.specs.Walk.{walked, asked, KeepsLow};
-ghost use Rattle.rv_csr.specs.Csr.{is_set};
+ghost use Rattle.sv39_walk.specs.Cache.{Fits};
+ghost use Rattle.sv39_walk.specs.Walk.{walked_for, KeepsLow};
 ghost use Rattle.rv_step.specs.Site.{resolved, resolve_walked, IsPlaced};
 
 use crate::vcpu::Vcpu;
@@ -13,8 +12,8 @@ use fc_numbers::machine::Access;
 use fc_numbers::places::{Gpa, Va};
 use gstage::stage::{Placed, SecondStage};
 use guest_ram::GuestRam;
-use rv_csr::has_bit;
-use sv39_walk::{Walked, walk};
+use sv39_walk::Walked;
+use sv39_walk::cache::WalkCache;
 
 /// Where an address leads.
 #[derive(Debug, Clone, Copy, PartialEq, Eq)]
@@ -31,25 +30,26 @@ pub enum Resolved {
     TableInText,
 }
 
-/// Where the address leads for this access, in the vCPU's mode and by its control registers.
+/// Where the address leads for this access, in the vCPU's mode and by its control registers. The stage tells text from
+/// other RAM. The cache is one of this memory, and keeps the answer.
 #[tactic(auto, unfolding(crate::specs::Site::resolved))]
 pub fn resolve<S: SecondStage>(
     vcpu: &Vcpu,
     ram: &GuestRam,
+    cache: &mut WalkCache,
     stage: &S,
     access: Access,
     va: Va,
 ) -> Resolved
-    requires { IsFor (S.text stage.now) (S.ram stage.now) ram.now }
+    requires stage { IsFor (S.text stage.now) (S.ram stage.now) ram.now }
+    requires fits { Fits ram.now cache.old }
     ensures value { result ≡ resolved vcpu.now ram.now access va }
     ensures placed { IsPlaced ram.now va result }
+    ensures fits { Fits ram.now cache.new }
 {
-    // Every memory is laid out so that its text lies in it; the call says so.
+    // The call says that the memory is laid out with its text in it.
     let _laid = ram.text();
-    let csr = &vcpu.csr;
-    let sum = has_bit(csr.sstatus, 18);
-    let mxr = has_bit(csr.sstatus, 19);
-    match walk(ram, csr.satp, vcpu.mode, sum, mxr, access, va) {
+    match cache.cached_for(ram, &vcpu.csr, vcpu.mode, access, va) {
         Walked::At(place) => match stage.place(place, access) {
             Placed::Text => Resolved::Text(place),
             Placed::Ram => Resolved::Ram(place),

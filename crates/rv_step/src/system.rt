@@ -4,17 +4,17 @@ ghost use Rattle.std.specs.Prelude.{◌≡◌, ◌<◌, ◌≤◌, ◌+◌, ◌-
 ghost use Rattle.guest_ram.specs.Ram.{Ram};
 ghost use Rattle.device_feed.specs.Devices.{lines_of, with_soft};
 ghost use Rattle.device_feed.specs.Calls.{Called, called};
-ghost use Rattle.rv_step.specs.Site.{OnVcpu, OnDevices, Outcome, Site, wrote, moved, after};
-ghost use Rattle.rv_step.specs.Classes.{did_csr, did_call, did_return, did_fence, changed, fed, csr_value, called_by, is_writing, illegal_effect};
+ghost use Rattle.rv_step.specs.Site.{OnVcpu, OnDevices, Outcome, Site, wrote, moved, after, source_value};
+ghost use Rattle.rv_step.specs.Classes.{did_csr, did_call, did_return, did_fence, changed, fed, csr_value, called_by, is_writing, is_zero, illegal_effect};
 
 use crate::causes::{ILLEGAL_INSTRUCTION, USER_CALL};
-use crate::vcpu::{Effect, Vcpu, following, write_back};
+use crate::vcpu::{Effect, Vcpu, following, source_value, write_back};
 use device_feed::feed::Feed;
 use device_feed::sbi::Sbi;
 use fc_numbers::machine::{End, Mode};
 use fc_numbers::places::{Va, VcpuNo};
-use rv_csr::{SIP, has_bit};
-use rv_kinds::CsrOp;
+use rv_csr::{Illegal, SIP, has_bit};
+use rv_kinds::{CsrAccess, CsrOp, Source};
 use trap_unit::sret;
 
 /// What an illegal instruction comes to. Its bits are not known here.
@@ -27,13 +27,22 @@ fn illegal() -> Effect
     }
 }
 
+fn is_zero(source: Source) -> bool
+    ensures { result ≡ is_zero source }
+{
+    match source {
+        Source::Register(n) => n == 0,
+        Source::Number(imm) => imm.cast_unsigned() == 0,
+    }
+}
+
 /// Whether an access with this source writes: reading alone is setting or clearing by source 0.
-pub(crate) fn is_writing(op: CsrOp, source: u64) -> bool
+fn is_writing(op: CsrOp, source: Source) -> bool
     ensures { result ≡ is_writing op source }
 {
     match op {
         CsrOp::Write => true,
-        _ => source != 0,
+        CsrOp::Set | CsrOp::Clear => !is_zero(source),
     }
 }
 
@@ -62,33 +71,27 @@ pub(crate) fn do_csr(
     vcpu: &mut Vcpu,
     feed: &mut Feed,
     len: u8,
-    op: CsrOp,
-    rd: u8,
-    csr: u16,
-    x: u64,
-    writes: bool,
+    inst: CsrAccess,
     clock: u64,
 ) -> Effect
-    ensures { let made : OnDevices = record { vcpu = vcpu.new; devices = feed.new; effect = result } in made ≡ did_csr vcpu.old feed.old len op rd csr x writes clock }
+    ensures { let made : OnDevices = record { vcpu = vcpu.new; devices = feed.new; effect = result } in made ≡ did_csr vcpu.old feed.old len inst clock }
 {
     let number = vcpu.number;
     let lines = feed.lines(number, clock);
-    match vcpu.csr.read(csr, vcpu.mode, clock, lines) {
-        Err(_) => illegal(),
-        Ok(old) => {
-            if !writes {
-                write_back(vcpu, len, rd, old);
-                return Effect::Next { wrote: None };
-            }
-            let value = change(op, old, x);
-            match vcpu.csr.write(csr, vcpu.mode, value) {
-                Err(_) => illegal(),
-                Ok(_) => {
-                    write_back(vcpu, len, rd, old);
-                    feed_soft(feed, number, csr, value);
-                    Effect::Next { wrote: None }
-                }
-            }
+    let Ok(old) = vcpu.csr.read(inst.csr, vcpu.mode, clock, lines) else {
+        return illegal();
+    };
+    if !is_writing(inst.op, inst.source) {
+        write_back(vcpu, len, inst.rd, old);
+        return Effect::Next { wrote: None };
+    }
+    let value = change(inst.op, old, source_value(vcpu, inst.source));
+    match vcpu.csr.write(inst.csr, vcpu.mode, value) {
+        Err(Illegal) => illegal(),
+        Ok(()) => {
+            write_back(vcpu, len, inst.rd, old);
+            feed_soft(feed, number, inst.csr, value);
+            Effect::Next { wrote: None }
         }
     }
 }

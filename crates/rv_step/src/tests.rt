@@ -18,6 +18,7 @@ use rv_decode::Inst;
 use sqlite_items::Items;
 use std::alloc::Global;
 use std::test::Fail;
+use sv39_walk::cache::WalkCache;
 
 const TEXT: u64 = RAM_START;
 
@@ -80,7 +81,10 @@ fn executed(
         ram: ram.span(),
     };
     let mut put = None;
-    let effect = execute(inst, 4, vcpu, &mut ram, &mut feed, &stage, &mut put, 7);
+    let mut cache = WalkCache::new();
+    let effect = execute(
+        inst, 4, vcpu, &mut ram, &mut cache, &mut feed, &stage, &mut put, 7,
+    );
     let after = ram.load(Gpa(DATA), Width::Doubleword).unwrap_or(0);
     Ok((effect, after, put))
 }

@@ -1,12 +1,13 @@
 //! A vCPU, and what an instruction comes to.
 
 ghost use Rattle.std.specs.Prelude.{◌≡◌, ◌+◌, ◌%◌, ◌^◌, ◌<◌};
-ghost use Rattle.rv_step.specs.Site.{reg_of, wrote, after, plus};
+ghost use Rattle.rv_step.specs.Site.{reg_of, source_value, wrote, after, plus};
 
 use fc_numbers::machine::{End, Mode};
 use fc_numbers::places::{Gpa, Va, VcpuNo};
 use fc_numbers::regs::Regs;
 use rv_csr::CsrFile;
+use rv_kinds::Source;
 
 /// What one vCPU keeps.
 #[derive(Debug, Clone, Copy)]
@@ -44,6 +45,16 @@ pub(crate) fn register(vcpu: &Vcpu, n: u8) -> u64
     vcpu.regs.get(n % 32)
 }
 
+/// The value of a source.
+pub(crate) fn source_value(vcpu: &Vcpu, source: Source) -> u64
+    ensures { result ≡ source_value vcpu.now source }
+{
+    match source {
+        Source::Register(n) => register(vcpu, n),
+        Source::Number(imm) => imm.cast_unsigned(),
+    }
+}
+
 /// The address after an instruction of `len` bytes.
 pub(crate) fn following(vcpu: &Vcpu, len: u8) -> u64
     ensures { result ≡ after vcpu.now len }
@@ -65,4 +76,11 @@ pub(crate) fn address(vcpu: &Vcpu, rs1: u8, imm: i64) -> u64
     ensures { result ≡ plus (reg_of vcpu.now rs1) imm }
 {
     register(vcpu, rs1).wrapping_add(imm.cast_unsigned())
+}
+
+/// The address so many bytes from the instruction.
+pub(crate) fn relative(vcpu: &Vcpu, imm: i64) -> u64
+    ensures { result ≡ plus vcpu.now.pc imm }
+{
+    vcpu.pc.0.wrapping_add(imm.cast_unsigned())
 }

@@ -1,5 +1,5 @@
 -- A translation goes by the page.
-use Rattle.std.proofs.Common.{◌≡◌, ℕ, zero, suc, ◌+◌, ◌-◌, ◌*◌, ◌/◌, ◌%◌, ◌^◌, ◌<◌, ◌≤◌, ◌==◌, Bool, true, false, if◌then◌else◌, refl, sym, ap, ◌∙◌, arith}
+use Rattle.std.proofs.Common.{◌≡◌, ℕ, zero, suc, ◌+◌, ◌*◌, ◌/◌, ◌%◌, ◌^◌, ◌<◌, ◌≤◌, ◌==◌, Bool, true, false, if◌then◌else◌, refl, ap, arith}
 use Rattle.std.specs.Prelude.{not}
 use Rattle.std.proofs.lemmas.Bool.Decides.{nat_tests}
 use Rattle.fc_numbers.specs.declared.machine.Mode.{Mode}
@@ -10,7 +10,6 @@ use Rattle.guest_ram.specs.Ram.{Ram, is_inside, is_text, value}
 use Rattle.page_table.specs.Entry.{ppn}
 use Rattle.page_table.specs.Level.{index_at, page_size}
 use Rattle.page_table.specs.Mode.{is_canonical, levels_of, satp_mode}
-use Rattle.sv39_walk.specs.declared.Walked.{Walked}
 use Rattle.sv39_walk.specs.declared.Walked.TheVariants.{At, PageFault, AccessFault, TableInText}
 use Rattle.sv39_walk.specs.Entry.{is_fault}
 use Rattle.sv39_walk.specs.Walk.{asked, entry_place, ends_in, leads_on, root_of, table_of, walk_from, walked}

@@ -1,5 +1,5 @@
 -- A store keeps the fit of every cache, and a cache that keeps nothing fits every memory.
-use Rattle.std.proofs.Common.{◌≡◌, ◌≢◌, ℕ, ◌+◌, ◌-◌, ◌*◌, ◌/◌, ◌%◌, ◌<◌, ◌≤◌, ◌⊎◌, inl, inr, true, false, Option, Some, None, List, length, get_or, refl, sym, ap, ◌∙◌, arith}
+use Rattle.std.proofs.Common.{◌≡◌, ◌≢◌, ℕ, ◌+◌, ◌-◌, ◌%◌, ◌<◌, ◌≤◌, ◌⊎◌, inl, inr, true, false, Option, Some, None, List, get_or, refl, sym, ap, ◌∙◌, arith}
 use Rattle.std.proofs.Common.{zero, suc}
 use Rattle.std.proofs.Math.ListN.{get_or-map}
 use Rattle.std.proofs.lemmas.List.{length-map}
@@ -10,7 +10,7 @@ use Rattle.fc_numbers.specs.declared.machine.Width.{Width}
 use Rattle.fc_numbers.specs.declared.machine.Width.TheVariants.{Byte, Halfword, Word, Doubleword}
 use Rattle.fc_numbers.specs.declared.places.TheConstants.{RAM_START}
 use Rattle.guest_ram.specs.Value.{count_of}
-use Rattle.guest_ram.specs.Ram.{Ram, IsLaid, frame_of, is_inside, stamp_of, stored, value, with_value}
+use Rattle.guest_ram.specs.Ram.{Ram, IsLaid, frame_of, is_inside, stamp_of, stored, with_value}
 use Rattle.guest_ram.proofs.Laws.{length-with_value, length-with_value_stamps, value-with_value_other, with_value-other_stamp, with_value-stamp, with_value-text}
 use Rattle.sv39_walk.specs.declared.cache.Kept.{Kept}
 use Rattle.sv39_walk.specs.declared.cache.Read.{Read}

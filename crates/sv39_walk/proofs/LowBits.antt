@@ -1,5 +1,5 @@
 -- A translation keeps the low 12 bits of the address.
-use Rattle.std.proofs.Common.{◌≡◌, ℕ, zero, suc, ◌+◌, ◌-◌, ◌*◌, ◌%◌, ◌<◌, ◌≤◌, ◌==◌, true, false, if◌then◌else◌, refl, arith}
+use Rattle.std.proofs.Common.{◌≡◌, ℕ, zero, suc, ◌+◌, ◌*◌, ◌%◌, ◌<◌, ◌≤◌, ◌==◌, true, false, if◌then◌else◌, refl, arith}
 use Rattle.std.specs.Prelude.{not}
 use Rattle.std.proofs.lemmas.Bool.Decides.{nat_tests}
 use Rattle.fc_numbers.specs.declared.machine.Width.TheVariants.{Doubleword}
@@ -12,7 +12,7 @@ use Rattle.sv39_walk.specs.declared.Walked.{Walked}
 use Rattle.sv39_walk.specs.declared.Walked.TheVariants.{At, PageFault, AccessFault, TableInText}
 use Rattle.sv39_walk.specs.Entry.{is_fault}
 use Rattle.sv39_walk.specs.Walk.{KeepsLow, entry_place, ends_in, leads_on, root_of, table_of, walk_from, walked}
-use Rattle.sv39_walk.specs.Page.{in_page, page_start}
+use Rattle.sv39_walk.specs.Page.{page_start}
 
 low_rest : (n level va : ℕ) → level < 4 → (n * 4096 + va % page_size level) % 4096 ≡ va % 4096
 low_rest n zero va low = omega arith

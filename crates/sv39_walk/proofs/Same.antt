@@ -1,14 +1,11 @@
 -- Memory in which the entries of a walk are the same has the same walk.
-use Rattle.std.proofs.Common.{◌≡◌, ℕ, zero, suc, ◌+◌, ◌-◌, ◌*◌, ◌/◌, ◌%◌, ◌<◌, ◌≤◌, ◌==◌, Bool, true, false, if◌then◌else◌, List, [], ◌∷◌, length, refl, sym, ap, ◌∙◌, arith}
-use Rattle.std.specs.Prelude.{All, not, ◌&&◌, nat_le, nat_lt}
+use Rattle.std.proofs.Common.{◌≡◌, ℕ, zero, suc, ◌-◌, ◌*◌, ◌%◌, ◌==◌, true, false, if◌then◌else◌, [], ◌∷◌, length, refl, sym, ap, ◌∙◌, arith}
+use Rattle.std.specs.Prelude.{All, ◌&&◌, nat_le, nat_lt}
 use Rattle.std.proofs.lemmas.List.Elements.{All-head, All-tail}
-use Rattle.std.proofs.lemmas.Bool.Decides.{nat_tests}
 use Rattle.std.proofs.lemmas.Grind.{common_steps}
 use Rattle.fc_numbers.specs.declared.machine.Width.TheVariants.{Doubleword}
 use Rattle.guest_ram.specs.Ram.{Ram, frame_of, is_inside, is_text, value}
 use Rattle.sv39_walk.specs.declared.Asked.{Asked}
-use Rattle.sv39_walk.specs.declared.Walked.{Walked}
-use Rattle.sv39_walk.specs.Entry.{is_fault}
 use Rattle.sv39_walk.specs.declared.Walked.TheVariants.{At, PageFault}
 use Rattle.page_table.specs.Entry.{ppn}
 use Rattle.page_table.specs.Mode.{is_canonical, levels_of, satp_mode}

@@ -1,7 +1,7 @@
 -- Answers of walks that are kept, and when they still hold.
 -- A kept answer stands with the frames of the entries that its walk read and their stamps. It is live while no frame of
 -- them was stored to: no fence is needed, since a translation is never stale.
-use Rattle.std.specs.Prelude.{◌≡◌, ℕ, ◌-◌, ◌*◌, ◌%◌, ◌<◌, ◌≤◌, ◌==◌, Bool, not, ◌&&◌, if◌then◌else◌, All, Contains, Option, Some, None, List, [], ◌∷◌, length, map, replicate}
+use Rattle.std.specs.Prelude.{◌≡◌, ℕ, ◌<◌, ◌≤◌, ◌==◌, Bool, not, ◌&&◌, if◌then◌else◌, All, Contains, Option, Some, None, List, [], ◌∷◌, length, map, replicate}
 use Rattle.std.proofs.Common.{zero, suc}
 use Rattle.guest_ram.specs.Ram.{Ram, frame_of, is_inside, is_text, stamp_of}
 use Rattle.page_table.specs.Mode.{is_canonical, levels_of, satp_mode}
@@ -59,6 +59,10 @@ FitsSlot ram (Some k) = FitsOne ram k
 -- the cache fits the memory
 abbrev pub Fits : Ram → List (Option Kept) → Type 0
 Fits ram slots = All (FitsSlot ram) slots
+
+-- every cache that fits the one memory fits the other
+abbrev pub KeepsFits : Ram → Ram → Type 0
+KeepsFits old new = (slots : List (Option Kept)) → Fits old slots → Fits new slots
 
 -- a cache that keeps nothing
 abbrev pub empty_cache : List (Option Kept)

@@ -1,7 +1,7 @@
 -- Translation of an address by satp: a sequence of table entries, at most three for Sv39 and four for Sv48, each standing in the table
 -- that the one before names.
 -- Privileged manual, "Supervisor Address Translation and Protection (satp) Register" and "Virtual Address Translation Process".
-use Rattle.std.specs.Prelude.{◌≡◌, ◌≢◌, ℕ, ◌+◌, ◌-◌, ◌*◌, ◌/◌, ◌%◌, ◌^◌, ◌<◌, ◌≤◌, ◌==◌, Bool, true, false, not, ◌&&◌, ◌||◌, nat_eq, if◌then◌else◌, List, length, slice_index, Result, Ok, Err}
+use Rattle.std.specs.Prelude.{◌≡◌, ◌≢◌, ℕ, ◌+◌, ◌-◌, ◌*◌, ◌%◌, ◌^◌, ◌<◌, ◌≤◌, ◌==◌, Bool, true, false, not, ◌&&◌, if◌then◌else◌, List, length, slice_index, Option, Some, None, Result, Ok, Err}
 use Rattle.std.proofs.Common.{zero, suc}
 use Rattle.fc_numbers.specs.declared.machine.Mode.{Mode}
 use Rattle.fc_numbers.specs.declared.machine.Access.{Access}
@@ -11,6 +11,9 @@ use Rattle.page_table.specs.declared.TheConstants.{PTE_SIZE}
 use Rattle.page_table.specs.Entry.{ppn, is_leaf}
 use Rattle.page_table.specs.Level.{index_at, page_size}
 use Rattle.page_table.specs.Mode.{is_canonical, levels_of, satp_mode}
+use Rattle.rv_csr.specs.Csr.{is_set}
+use Rattle.rv_csr.specs.Csrs.{Csrs}
+use Rattle.rv_csr.specs.declared.TheConstants.{MXR_BIT, SUM_BIT}
 use Rattle.sv39_walk.specs.Entry.{is_fault}
 use Rattle.sv39_walk.specs.declared.Asked.{Asked}
 use Rattle.sv39_walk.specs.declared.Walked.{Walked}
@@ -85,3 +88,19 @@ KeepsLow va (At place) = place % 4096 ≡ va % 4096
 KeepsLow va PageFault = Unit {0}
 KeepsLow va AccessFault = Unit {0}
 KeepsLow va TableInText = Unit {0}
+
+-- the translation for a vCPU with these registers, in this mode: by its own satp, and by SUM and MXR of its sstatus
+abbrev pub walked_for : Ram → Csrs → Mode → Access → ℕ → Walked
+walked_for ram csr mode access va =
+    walked ram csr.satp (asked mode (is_set csr.sstatus SUM_BIT) (is_set csr.sstatus MXR_BIT) access va)
+
+-- the place that an address is translated to, if there is one
+abbrev pub place_of : Walked → Option ℕ
+place_of (At place) = Some place
+place_of PageFault = None
+place_of AccessFault = None
+place_of TableInText = None
+
+-- the place that an address leads to for a vCPU with these registers, in this mode
+unfoldable pub place_for : Ram → Csrs → Mode → Access → ℕ → Option ℕ
+place_for ram csr mode access va = place_of (walked_for ram csr mode access va)

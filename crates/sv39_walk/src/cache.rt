@@ -1,7 +1,7 @@
 //! Answers of walks that are kept.
 
 ghost use Rattle.std.specs.Prelude.{◌≡◌, ◌≤◌, ◌<◌, ◌+◌, ◌-◌, ◌%◌, length, IfSome, IsTrue as Holds};
-ghost use Rattle.sv39_walk.specs.Walk.{asked, walked, KeepsLow};
+ghost use Rattle.sv39_walk.specs.Walk.{asked, walked, walked_for, KeepsLow};
 ghost use Rattle.sv39_walk.specs.Page.{in_page, page_start};
 ghost use Rattle.sv39_walk.specs.Cache.{Fits, FitsOne, IsLive, IsNow, empty_cache};
 
@@ -10,6 +10,8 @@ use crate::{Asked, Walked, translate};
 use fc_numbers::machine::{Access, Mode};
 use fc_numbers::places::{Gpa, PAGE, Va};
 use guest_ram::GuestRam;
+use page_table::{MODE_BARE, mode_of};
+use rv_csr::CsrFile;
 use std::marker::Model;
 
 /// How many answers a cache keeps.
@@ -98,6 +100,8 @@ fn first_frame(ram: &GuestRam) -> Read
 }
 
 /// What is kept of a translation.
+#[cold]
+#[inline(never)]
 fn kept_of(ram: &GuestRam, satp: u64, asked: Asked) -> Kept
     ensures answer { result.answer ≡ walked ram.now satp asked }
     ensures satp { result.satp ≡ satp }
@@ -157,6 +161,7 @@ impl WalkCache {
 
     /// Translates the address for the access, as [`crate::walk`] does, and keeps the answer. It reads table entries only
     /// where no live answer is kept.
+    #[inline(never)]
     pub fn cached_walk(
         &mut self,
         ram: &GuestRam,
@@ -181,5 +186,27 @@ impl WalkCache {
         };
         let answer = self.answer_in(ram, satp, page, slot_of(va));
         moved(answer, va)
+    }
+
+    /// Translates the address for an access of a vCPU with these registers, in this mode, as [`crate::walk_for`] does, and
+    /// keeps the answer. Where satp asks for no translation nothing is kept.
+    #[tactic(auto, unfolding(crate::specs::Walk::walked))]
+    pub fn cached_for(
+        &mut self,
+        ram: &GuestRam,
+        csr: &CsrFile,
+        mode: Mode,
+        access: Access,
+        va: Va,
+    ) -> Walked
+        requires { Fits ram.now self.old }
+        ensures value { result ≡ walked_for ram.now csr.now mode access va }
+        ensures low { KeepsLow va result }
+        ensures fits { Fits ram.now self.new }
+    {
+        if mode_of(csr.satp) == MODE_BARE {
+            return Walked::At(Gpa(va.0));
+        }
+        self.cached_walk(ram, csr.satp, mode, csr.sum(), csr.mxr(), access, va)
     }
 }

@@ -11,11 +11,11 @@
 //! translate by it. A walk that keeps answers belongs beside [`walk`], with the same clauses.
 #![tactic(auto)]
 
-ghost use Rattle.std.specs.Prelude.{◌≡◌, ◌≤◌, ◌<◌, ◌+◌, ◌*◌, ◌/◌, ◌^◌, ◌%◌, Result, Ok, Err};
+ghost use Rattle.std.specs.Prelude.{◌≡◌, ◌≤◌, ◌<◌, ◌+◌, ◌*◌, ◌/◌, ◌^◌, ◌%◌, IfSome, Result, Ok, Err};
 ghost use Rattle.page_table.specs.declared.TheConstants.{LEVELS_MOST};
 ghost use Rattle.page_table.specs.Level.{index_at, page_size};
 ghost use Rattle.page_table.specs.Mode.{is_canonical};
-ghost use Rattle.sv39_walk.specs.Walk.{asked, entry_read, walk_from, walked, IsTranslation, KeepsLow};
+ghost use Rattle.sv39_walk.specs.Walk.{asked, entry_read, walk_from, walked, walked_for, place_for, IsTranslation, KeepsLow};
 
 use entry::is_fault;
 use fc_numbers::machine::{Access, Mode, Width};
@@ -24,6 +24,7 @@ use guest_ram::GuestRam;
 use page_table::{
     LEVELS_MOST, MODE_BARE, PPN_COUNT, PTE_SIZE, is_leaf, levels_of, mode_of, page_number,
 };
+use rv_csr::CsrFile;
 
 pub mod cache;
 mod entry;
@@ -159,4 +160,25 @@ pub fn walk(
         va,
     };
     translate(ram, satp, &q)
+}
+
+/// Translates the address for an access of a vCPU with these registers, in this mode: by its satp, and by SUM and MXR
+/// of its sstatus.
+pub fn walk_for(ram: &GuestRam, csr: &CsrFile, mode: Mode, access: Access, va: Va) -> Walked
+    ensures value { result ≡ walked_for ram.now csr.now mode access va }
+    ensures low { KeepsLow va result }
+{
+    walk(ram, csr.satp, mode, csr.sum(), csr.mxr(), access, va)
+}
+
+/// The place that [`walk_for`] finds, if there is one.
+#[tactic(auto, unfolding(crate::specs::Walk::place_for))]
+pub fn place_for(ram: &GuestRam, csr: &CsrFile, mode: Mode, access: Access, va: Va) -> Option<Gpa>
+    ensures value { result ≡ place_for ram.now csr.now mode access va }
+    ensures low { IfSome result (λ place. place % 4096 ≡ va % 4096) }
+{
+    match walk_for(ram, csr, mode, access, va) {
+        Walked::At(place) => Some(place),
+        Walked::PageFault | Walked::AccessFault | Walked::TableInText => None,
+    }
 }

@@ -7,7 +7,7 @@
 //! Below stand `fc_numbers` and `rv_csr`. The crates that execute instructions and step a board stand above.
 #![tactic(auto)]
 
-ghost use Rattle.std.specs.Prelude.{◌≡◌, ◌+◌, ◌-◌, ◌*◌, ◌/◌, ◌%◌, ◌^◌, ◌<◌};
+ghost use Rattle.std.specs.Prelude.{◌≡◌, ℕ, ◌==◌, ◌&&◌, not, false, None, ◌+◌, ◌-◌, ◌*◌, ◌/◌, ◌%◌, ◌^◌, ◌<◌};
 ghost use Rattle.trap_unit.specs.Trap.{entered, entered_at, returned, return_mode, due, are_open, trap_status, return_status, vector};
 
 use fc_numbers::machine::Mode;
@@ -105,6 +105,14 @@ fn is_open(csr: &CsrFile, mode: Mode) -> bool
         Mode::Vu => true,
         Mode::Vs => has_bit(csr.sstatus, SIE_BIT),
     }
+}
+
+/// Whether interrupts are taken in this mode and one of them is enabled. Where not, none is due, whatever the lines are.
+pub fn may_interrupt(csr: &CsrFile, mode: Mode) -> bool
+    ensures answer { result ≡ (are_open csr.now mode && not (csr.now.sie == 0)) }
+    ensures none { result ≡ false → (lines : ℕ) → due csr.now mode lines ≡ None }
+{
+    is_open(csr, mode) && csr.sie != 0
 }
 
 /// The code of the interrupt that is due in this mode with these lines, if one is.

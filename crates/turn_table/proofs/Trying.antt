@@ -9,7 +9,7 @@ use Rattle.guest_input.specs.declared.setup.Setup.{Setup}
 use Rattle.function_table.specs.Groups.{Groups, groups_count, groups_of, group_at}
 use Rattle.guest_board.specs.Board.{Seat, may, moved, step_of, next_of}
 use Rattle.guest_board.specs.First.{first_seat}
-use Rattle.run_evidence.specs.Config.{Config, IsLawful, full, is_base, view_in, groups_in}
+use Rattle.run_evidence.specs.Config.{Config, IsLawful, full, is_base, rules_in, view_in, groups_in}
 use Rattle.run_evidence.specs.Evidence.{log_in}
 use Rattle.run_evidence.specs.Growing.{IsAllowedFrom, board_of, paged_at, views_count}
 use Rattle.run_evidence.proofs.Growing.{boards_move, lawful_grows, allowed_from_grows}
@@ -84,9 +84,9 @@ module _ (c : Config) where
   open_base v t g x e = ap (λ z. z || x) e
 
   -- a board after one more step, whose fetch is of a group in the base
-  more_at : (h : List ℕ) (i : ℕ) → IsLawful c h → may c.setup.steps (full c h) i ≡ true
+  more_at : (h : List ℕ) (i : ℕ) → IsLawful c h → may (rules_in c) (full c h) i ≡ true
       → ((p : ℕ) → next_of (full c h) i ≡ Some p → is_base c (view_in c (full c h) i) (group_at (groups_in c) p) ≡ true)
-      → (logs : List Log) → (moved (board_of c h) i (step_of c.setup.steps (full c h) i) ≡ board_of c (h ++ i ∷ [])) × IsLawful c (h ++ i ∷ []) × IsAllowedFrom c logs (h ++ i ∷ []) (length h)
+      → (logs : List Log) → (moved (board_of c h) i (step_of (rules_in c) (full c h) i) ≡ board_of c (h ++ i ∷ [])) × IsLawful c (h ++ i ∷ []) × IsAllowedFrom c logs (h ++ i ∷ []) (length h)
   more_at h i lawful goes base logs = (
     sym (boards_move c h i),
     lawful_grows c h i lawful goes,
@@ -111,9 +111,9 @@ module _ (c : Config) where
   pub step_gives : (b n : Seat) (i : ℕ) (logs : List Log) → b ≡ board_of c b.schedule → IsLawful c b.schedule → IsStepped b n i c.views (groups_in c) → Gives b.schedule logs i n
   step_gives b n i logs is lawful went =
       let h : List ℕ = b.schedule in
-      let t = more_at h i lawful (subst (λ (d : Seat). may d.steps d.state i ≡ true) is went.goes)
+      let t = more_at h i lawful (subst (λ (d : Seat). may d.rules d.state i ≡ true) is went.goes)
       (subst (λ (d : Seat). (p : ℕ) → next_of d.state i ≡ Some p → is_base c (view_in c d.state i) (group_at (groups_in c) p) ≡ true) is went.based) logs in
-      more_gives h i n logs (went.after ∙ (ap (λ (d : Seat). moved d i (step_of d.steps d.state i)) is ∙ t.0)) t.1 t.2
+      more_gives h i n logs (went.after ∙ (ap (λ (d : Seat). moved d i (step_of d.rules d.state i)) is ∙ t.0)) t.1 t.2
 
 -- the same of a pass that took the board
 pub taken_gives : (v m : Known) (b n : Seat) (i : ℕ) (profile : Views) (groups : Groups) → m ≡ with_board v b.schedule → own v ≡ i → v.views ≡ profile → groups ≡ groups_of v.image

@@ -39,6 +39,6 @@ pub record IsRun (image : Image) (setup : Setup) (groups : Groups) (profile : Vi
 
 -- one full step of vCPU i, whose fetch is of a group in the base of its view
 pub record IsStepped (old new : Seat) (i : ℕ) (profile : Views) (groups : Groups) : Type 0 where
-  pub goes : may old.steps old.state i ≡ true
-  pub after : new ≡ moved old i (step_of old.steps old.state i)
+  pub goes : may old.rules old.state i ≡ true
+  pub after : new ≡ moved old i (step_of old.rules old.state i)
   pub based : (p : ℕ) → next_of old.state i ≡ Some p → slice_index_or (base_of profile groups (view_named profile (name_of old.state i))) (group_at groups p) false ≡ true

@@ -108,8 +108,8 @@ fn open_run(
 }
 
 fn full_step(board: &mut Board, i: VcpuNo) -> Option<Gpa>
-    requires { may board.old.steps board.old.state i ≡ true }
-    ensures after { board.new ≡ moved board.old i (step_of board.old.steps board.old.state i) }
+    requires { may board.old.rules board.old.state i ≡ true }
+    ensures after { board.new ≡ moved board.old i (step_of board.old.rules board.old.state i) }
     ensures place { result ≡ next_of board.old.state i }
 {
     match board.step_full(i) {

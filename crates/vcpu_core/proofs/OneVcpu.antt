@@ -1,14 +1,14 @@
 -- With one vCPU the logs are in order, and where the run has ended they are its misses.
-use Rattle.std.proofs.Common.{◌≡◌, ℕ, ◌+◌, ◌<◌, true, false, Bool, List, [], ◌∷◌, ◌++◌, length, refl, sym, subst, ◌∙◌, arith, None, length-set}
+use Rattle.std.proofs.Common.{◌≡◌, ℕ, ◌+◌, ◌<◌, true, false, Bool, List, [], ◌∷◌, ◌++◌, length, refl, sym, ap, subst, ◌∙◌, arith, None, length-set}
 use Rattle.std.specs.Prelude.{IsSome, slice_index_or, slice_set, if◌then◌else◌}
 use Rattle.chain_log.specs.declared.entry.LogEntry.{LogEntry}
 use Rattle.view_file.specs.Named.{view_named}
 use Rattle.view_store.specs.Paged.{PagedView, is_present, logged, patched}
 use Rattle.guest_board.specs.declared.seen.Verdict.{Verdict}
 use Rattle.guest_board.specs.declared.seen.Verdict.TheVariants.{Idle, Needs, Zeroes, Goes}
-use Rattle.guest_board.specs.Board.{State, may}
+use Rattle.guest_board.specs.Board.{Seat as Seating, State, may}
 use Rattle.guest_board.specs.Seen.{after_verdict, trapped_at}
-use Rattle.guest_board.proofs.Steps.{may-vcpu}
+use Rattle.run_evidence.proofs.Steps.{may-slot}
 use Rattle.run_evidence.specs.Config.{Config, IsConfig, full}
 use Rattle.run_evidence.proofs.Logged.{AreOrdered, ordered-push, log-is-misses}
 use Rattle.run_evidence.proofs.Missed.{under-all}
@@ -16,15 +16,17 @@ use Rattle.run_evidence.proofs.OneVcpu.{view-first, all-of-steps}
 use Rattle.vcpu_core.specs.declared.lane.Lane.{Lane}
 use Rattle.vcpu_core.specs.declared.lane.Phase.{Phase}
 use Rattle.vcpu_core.specs.declared.lane.Phase.TheVariants.{Running, Wants, Trapped, Looked}
-use Rattle.vcpu_core.specs.Lanes.{in_phase, emptied, after_fill, after_look, after_mend}
+use Rattle.vcpu_core.specs.Lanes.{in_phase, after_fill, after_look, after_mend}
 use Rattle.vcpu_core.specs.First.{first_world, first_lane, first_lanes}
 use Rattle.vcpu_core.specs.World.{World, gone, go_of, go_all, erased, lane_of, paged_in, blank_lane, logs_of, windows_of, verdict_in, with_lane, after_event}
-use Rattle.vcpu_core.specs.Sound.{IsSound, IsSoundView}
+use Rattle.run_evidence.specs.Growing.{views_count}
+use Rattle.run_evidence.specs.Sound.{IsSoundView}
+use Rattle.vcpu_core.specs.Sound.{IsSound}
 use Rattle.vcpu_core.specs.Missed.{HasEnded, EachLogsItsMisses, first_view, FirstLogsAllMisses}
 use Rattle.vcpu_core.proofs.Ready.{set-paged, named-below}
 use Rattle.vcpu_core.proofs.Kept.{IsKept, log-of, go-kept}
-use Rattle.vcpu_core.proofs.Start.{first-kept, paged-views-long, paged-views-at, lanes-long, lanes-at}
-use Rattle.vcpu_core.proofs.EveryOrder.{ram_stays, sound_of_events}
+use Rattle.vcpu_core.proofs.Run.{full-clock}
+use Rattle.vcpu_core.proofs.Start.{first-kept, paged-views-long, paged-views-at, lanes-long, lanes-at, sound_of_events}
 
 -- a trap that is not yet mended is of this moment
 abbrev pub IsOfNow : ℕ → Phase → Type 0
@@ -56,10 +58,10 @@ unfolding after_verdict
 turned-order c w Idle k o = lane-order w (lane_of w 0) o o.phase
 turned-order c w (Needs n) k o = lane-order w (in_phase (lane_of w 0) (windows_of w 0 (lane_of w 0)) (Wants n)) o tt
 turned-order c w (Zeroes p) k o =
-    lane-order w (in_phase (lane_of w 0) (windows_of w 0 (lane_of w 0)) (Trapped (trapped_at w.board.state 0 (windows_of w 0 (lane_of w 0)).view p))) o k.board.clock
+    lane-order w (in_phase (lane_of w 0) (windows_of w 0 (lane_of w 0)) (Trapped (trapped_at w.board.state 0 (windows_of w 0 (lane_of w 0)).view p))) o (ap (λ (b : Seating). b.state.clock) k.board ∙ full-clock c w.board.schedule)
 turned-order c w (Goes r) k o = record {
   one = simp length-set o.one;
-  phase = set-first (length (w.board.schedule ++ 0 ∷ [])) w.lanes (in_phase (lane_of w 0) (emptied (windows_of w 0 (lane_of w 0))) Running) o.one tt;
+  phase = set-first (length (w.board.schedule ++ 0 ∷ [])) w.lanes (in_phase (lane_of w 0) (windows_of w 0 (lane_of w 0)) Running) o.one tt;
   logs = o.logs;
 }
 
@@ -89,16 +91,16 @@ gone-order c w (Looked x) k o e =
 go-order : (c : Config) (w : World) (i : ℕ) → IsKept c w → IsInOrder w → IsInOrder (go_of w i)
 unfolding go_of
 go-order c w i k o =
-    elim (may w.board.steps w.board.state i) as (λ b. may w.board.steps w.board.state i ≡ b → IsInOrder (if b then gone w i (lane_of w i) (lane_of w i).phase else w)) [
+    elim (may w.board.rules w.board.state i) as (λ b. may w.board.rules w.board.state i ≡ b → IsInOrder (if b then gone w i (lane_of w i) (lane_of w i).phase else w)) [
       | true ↦ λ m.
-          let first : 0 ≡ i = omega (arith, may-vcpu w.board.steps w.board.state i m, k.ready.lanes, o.one) in
+          let first : 0 ≡ i = omega (arith, may-slot w.board.rules w.board.state i m, k.ready.lanes, o.one) in
           subst (λ j. IsInOrder (gone w j (lane_of w j) (lane_of w j).phase)) first (gone-order c w (lane_of w 0).phase k o refl)
       | false ↦ λ m. o
     ] refl
 
 go_all-order : (c : Config) → IsConfig c → (w : World) (is : List ℕ) → IsKept c w → IsInOrder w → IsInOrder (go_all w is)
 go_all-order c ok w [] k o = o
-go_all-order c ok w (i ∷ is) k o = go_all-order c ok (go_of w i) is (go-kept ram_stays c ok w i k) (go-order c w i k o)
+go_all-order c ok w (i ∷ is) k o = go_all-order c ok (go_of w i) is (go-kept c ok w i k) (go-order c w i k o)
 
 -- before any event
 first-order : (c : Config) → c.setup.vcpus ≡ 1 → IsInOrder (first_world c)
@@ -111,7 +113,7 @@ first-order c one =
       one = long ∙ one;
       phase = subst (λ (l : Lane). IsOfNow 0 l.phase) (sym lane) tt;
       logs = λ v h. subst (λ (p : PagedView). AreOrdered p.log)
-          (sym (paged-views-at c (length c.views.apps + 1) v (subst (λ n. v < n) (paged-views-long c (length c.views.apps + 1)) h))) tt;
+          (sym (paged-views-at c (views_count c) v (subst (λ n. v < n) (paged-views-long c (views_count c)) h))) tt;
     }
 
 pub in_order : (c : Config) → IsConfig c → c.setup.vcpus ≡ 1 → (is : List ℕ) → IsInOrder (go_all (first_world c) is)
@@ -135,5 +137,5 @@ first_logs_all_misses c ok one unhooked is ended =
     let inside : first_view c < length (go_all (first_world c) is).paged_views = omega (arith, s.numbered, named-below c.views c.setup.start) in
     record {
       within = inside;
-      all = each_logs_its_misses c ok one is ended (first_view c) inside ∙ under-all c (erased (first_world c) is) (first_view c) (view-first c one (erased (first_world c) is) s.lawful);
+      all = each_logs_its_misses c ok one is ended (first_view c) inside ∙ under-all c (erased (first_world c) is) (first_view c) (view-first c one (erased (first_world c) is) s.lawful unhooked);
     }

@@ -8,16 +8,7 @@ use Rattle.gstage.specs.Map.{AreSpans}
 use Rattle.gstage.specs.Stage.{IsFor}
 use Rattle.gstage.specs.Table.{Table}
 use Rattle.rv_step.specs.Kept.{KeepsText}
-use Rattle.guest_board.specs.declared.seen.Verdict.{Verdict}
-use Rattle.guest_board.specs.declared.seen.Verdict.TheVariants.{Idle, Needs, Zeroes, Goes}
-use Rattle.guest_board.specs.Board.{Seat}
-use Rattle.guest_board.specs.Seen.{after_verdict}
-use Rattle.guest_board.proofs.Stays.{stepped_keeps}
-use Rattle.vcpu_core.specs.declared.lane.Lane.{Lane}
-use Rattle.vcpu_core.specs.declared.lane.Phase.{Phase}
-use Rattle.vcpu_core.specs.declared.lane.Phase.TheVariants.{Running, Wants, Trapped, Looked}
 use Rattle.vcpu_core.specs.Stages.{IsStageFor, AreStagesFor}
-use Rattle.vcpu_core.specs.World.{World, gone, windows_of, verdict_in}
 
 -- a memory that is laid lawfully has spans that a table can be built of
 pub spans_of : (memory : Ram) (text : List Span) (ram : Span) → IsLaid memory → IsFor text ram memory → AreSpans text ram
@@ -57,21 +48,3 @@ stages_kept old new n stages kept all = record {
     placing = for_kept (slice_index_or stages v d).text (slice_index_or stages v d).ram old new kept (all.each v d h).placing;
   };
 }
-
-keeps_same : (ram : Ram) → KeepsText ram ram
-keeps_same ram = record { text = refl; size = refl; frames = refl; bytes = λ at h. refl; stamp_least = λ frame. omega arith; stamp_most = λ frame. omega arith }
-
-verdict_keeps : (b : Seat) (i : ℕ) (v : Verdict) → IsLaid b.state.ram → KeepsText b.state.ram (after_verdict b i v).state.ram
-unfolding after_verdict
-verdict_keeps b i Idle laid = keeps_same b.state.ram
-verdict_keeps b i (Needs n) laid = keeps_same b.state.ram
-verdict_keeps b i (Zeroes p) laid = keeps_same b.state.ram
-verdict_keeps b i (Goes ready) laid = stepped_keeps b.steps b.state i ready laid
-
--- an event keeps kernel text and the size of memory
-pub gone_keeps : (w : World) (i : ℕ) (l : Lane) (phase : Phase) → IsLaid w.board.state.ram → KeepsText w.board.state.ram (gone w i l phase).board.state.ram
-unfolding gone
-gone_keeps w i l Running laid = verdict_keeps w.board i (verdict_in w i (windows_of w i l)) laid
-gone_keeps w i l (Wants n) laid = keeps_same w.board.state.ram
-gone_keeps w i l (Trapped t) laid = keeps_same w.board.state.ram
-gone_keeps w i l (Looked k) laid = keeps_same w.board.state.ram

@@ -1,28 +1,38 @@
--- What the windows of a lane are, and that a step by truthful windows is the full kernel's step.
-use Rattle.std.proofs.Common.{◌≡◌, ◌≢◌, ℕ, ◌+◌, ◌-◌, ◌*◌, ◌/◌, ◌%◌, ◌<◌, ◌≤◌, true, false, Bool, List, [], ◌∷◌, ◌++◌, length, refl, sym, ap, subst, ◌∙◌, arith, Option, Some, None, ◌⊎◌, inl, inr}
-use Rattle.std.specs.Prelude.{◌==◌, slice_index, nat_le, nat_lt, if◌then◌else◌}
+-- What the windows of a lane are, and that a fetch by truthful windows is the full kernel's fetch.
+use Rattle.std.proofs.Common.{◌≡◌, ◌≢◌, ℕ, ◌+◌, ◌-◌, ◌*◌, ◌/◌, ◌%◌, ◌<◌, ◌≤◌, true, false, Bool, cond, List, [], ◌∷◌, ◌++◌, length, refl, sym, ap, subst, ◌∙◌, arith, Option, Some, None, append_assoc}
+use Rattle.std.specs.Prelude.{◌==◌, ◌||◌, slice_index, slice_index_or, nat_le, nat_lt, if◌then◌else◌}
+use Rattle.std.specs.List.{find, list_any}
 use Rattle.std.proofs.lemmas.Grind.{common_steps}
 use Rattle.std.proofs.lemmas.Bool.Decides.{nat_tests}
-use Rattle.fc_numbers.specs.declared.pair.Pair.{Pair}
 use Rattle.fc_numbers.specs.declared.places.Span.{Span}
 use Rattle.fc_numbers.specs.declared.places.TheConstants.{RAM_START, RAM_MOST}
+use Rattle.fc_numbers.specs.declared.window.Window.{Window}
 use Rattle.fc_numbers.specs.Spans.{AreRangesFrom, IsTextBelow, end_in, holds, in_text, offset_in, place_in, size_of, text_size}
 use Rattle.fc_numbers.proofs.TextLaws.{end_near, offset_below, offset_near, offset_page, place_inside, place_near, place_offset, places_above}
 use Rattle.guest_input.specs.Accepted.{IsAscendingFrom}
+use Rattle.guest_input.specs.Text.{bytes_of}
 use Rattle.function_table.specs.Groups.{Groups, group_in, group_at, groups_count, range_of, half_of, IsRangeOf, IsGroups}
-use Rattle.function_table.proofs.GroupLemmas.{range_is}
+use Rattle.function_table.proofs.GroupLemmas.{groups-good, joined, range_is}
 use Rattle.chain_log.specs.declared.entry.LogEntry.{LogEntry}
 use Rattle.guest_ram.specs.Ram.{Ram, is_text}
 use Rattle.guest_ram.specs.Value.{value_at}
-use Rattle.view_store.specs.Paged.{PagedView, pair_of, is_present, logged}
+use Rattle.view_store.specs.Paged.{PagedView, is_logged, is_present, masked, window_of}
+use Rattle.view_store.proofs.PageLemmas.{windows_are_of_the_mask}
 use Rattle.guest_board.specs.declared.fetch.Fetched.{Fetched}
 use Rattle.guest_board.specs.declared.fetch.Fetched.TheVariants.{Short, Long, Faults, Stops}
-use Rattle.guest_board.specs.declared.step.Ready.{Ready}
 use Rattle.guest_board.specs.declared.seen.Windows.{Windows}
+use Rattle.guest_board.specs.declared.step.StepStart.{StepStart}
 use Rattle.guest_board.specs.Fetch.{text_place, place_if, with_halves, half_at}
-use Rattle.guest_board.specs.Seen.{half_no, is_cleared, first_of, second_of}
+use Rattle.guest_board.specs.Seen.{half_in_line, line_no, is_cleared, window_at}
 use Rattle.guest_board.proofs.Places.{HalvesAre, IsBehind}
-use Rattle.vcpu_core.proofs.Verdicts.{IsRead}
+use Rattle.run_evidence.specs.Config.{Config, IsConfig, groups_in}
+use Rattle.run_evidence.specs.Growing.{Begins, paged_at}
+use Rattle.vcpu_core.specs.Truthful.{AllTaken, AreTruthful, IsClearedBy, IsRangeOfPresent, IsTaken}
+use Rattle.vcpu_core.proofs.Verdicts.{IsRead, first_in, second_in}
+
+-- the number of the halfword of text at a place
+abbrev pub half_no : List Span → ℕ → ℕ
+half_no text place = offset_in text place / 2
 
 -- the number of starts at most an offset is that at its halfword, since starts are even
 group-even : (low size : ℕ) (xs : List ℕ) (o : ℕ) → IsAscendingFrom low xs size → group_in xs o ≡ group_in xs (2 * (o / 2))
@@ -133,124 +143,200 @@ next-half ranges p k inside more =
     room-at : (o end p a q b : ℕ) → q ≡ o + 2 → b ≡ p + 2 → a ≡ p - p % 2 → 2 * (o / 2) < end → end % 4096 ≡ 0 → (end ≤ q → a + 4096 < b) → 2 * (o / 2 + 1) < end
     room-at o end p a q b near back first some pages far = grind (arith, near, back, first, some, pages, far)
 
--- the pair has the original halfwords of a present group
-pub record IsOriginal (p : PagedView) (pair : Pair) : Type 0 where
-  pub first : first_of pair ≡ half_of p.text pair.at
-  pub second : group_in p.groups.starts (2 * (pair.at + 1)) ≡ group_in p.groups.starts (2 * pair.at) → second_of pair ≡ half_of p.text (pair.at + 1)
-  pub present : is_present p.base p.log (group_in p.groups.starts (2 * pair.at)) ≡ true
+-- the range of text that holds an offset holds the next ones before its end
+end-within : (ss : List Span) (o d : ℕ) → o + d < end_in ss o → end_in ss (o + d) ≡ end_in ss o
+end-within [] o d more = absurd (omega (arith, more))
+end-within (s ∷ ss) o d more =
+    elim (nat_lt o (size_of s)) as (λ b. nat_lt o (size_of s) ≡ b → o + d < (if b then size_of s else size_of s + end_in ss (o - size_of s))
+    → end_in (s ∷ ss) (o + d) ≡ (if b then size_of s else size_of s + end_in ss (o - size_of s))) [
+      | true ↦ λ t z.
+          let here : nat_lt (o + d) (size_of s) ≡ true = grind (arith, nat_tests, z) in
+          rw here refl
+      | false ↦ λ t z.
+          let over : size_of s ≤ o = grind (arith, nat_tests, t) in
+          let past : nat_lt (o + d) (size_of s) ≡ false = grind (arith, nat_tests, over) in
+          let index : o + d - size_of s ≡ o - size_of s + d = omega (arith, over) in
+          rw (past, index) (ap (λ n. size_of s + n) (end-within ss (o - size_of s) d (omega (arith, z, over))))
+    ] refl more
 
--- or it was taken while its group was missing, and no place of that halfword is cleared
-pub record IsMissing (p : PagedView) (cleared : Option Span) (pair : Pair) : Type 0 where
-  pub zero : first_of pair ≡ 0
-  pub uncleared : (q : ℕ) → Rattle.function_table.specs.Groups.in_text p.groups q ≡ true → half_no p.groups.text q ≡ pair.at → is_cleared cleared q ≡ false
+-- halfword numbers and lines
+line-half : (text : List Span) (p : ℕ) → 32 * line_no text p + half_in_line text p ≡ half_no text p
+line-half text p = omega arith
 
-abbrev pub HeldIs : PagedView → Option Span → Pair → Type 0
-HeldIs p cleared pair = IsOriginal p pair ⊎ IsMissing p cleared pair
+-- what a view had is what it has when its log is longer
+any-front : (log rest : List LogEntry) (g : ℕ) → is_logged log g ≡ true → is_logged (log ++ rest) g ≡ true
+any-front [] rest g e = absurd (cc)
+any-front (x ∷ xs) rest g e =
+    elim (x.group == g) as (λ b. (b || is_logged xs g) ≡ true → (b || is_logged (xs ++ rest) g) ≡ true) [
+      | true ↦ λ h. refl
+      | false ↦ λ h. any-front xs rest g h
+    ] e
 
--- the cleared range is that of a present group
-pub record IsClearedOf (p : PagedView) (s : Span) : Type 0 where
-  pub group : ℕ
-  pub range : s ≡ range_of p.groups group
-  pub within : group < groups_count p.groups
-  pub present : is_present p.base p.log group ≡ true
+or-weaken : (a b d : Bool) → (b ≡ true → d ≡ true) → (a || b) ≡ true → (a || d) ≡ true
+or-weaken true b d f e = refl
+or-weaken false b d f e = f e
 
-pub record AreTruthful (p : PagedView) (w : Windows) : Type 0 where
-  pub held : (pair : Pair) → w.held ≡ Some pair → HeldIs p w.cleared pair
-  pub cleared : (s : Span) → w.cleared ≡ Some s → IsClearedOf p s
+pub present-longer : (base : List Bool) (seen log : List LogEntry) (g : ℕ) → Begins seen log → is_present base seen g ≡ true → is_present base log g ≡ true
+present-longer base seen log g front e =
+    or-weaken (slice_index_or base g false) (is_logged seen g) (is_logged log g) (λ h. subst (λ (l : List LogEntry). is_logged l g ≡ true) (sym front.1) (any-front seen front.0 g h)) e
+
+pub begins-itself : {X : Type 0} (xs : List X) → Begins xs xs
+begins-itself xs = ([], grind (arith, common_steps))
+
+pub begins-through : {X : Type 0} (xs ys zs : List X) → Begins xs ys → Begins ys zs → Begins xs zs
+begins-through xs ys zs a b = (a.0 ++ b.0, b.1 ∙ ap (λ l. l ++ b.0) a.1 ∙ append_assoc xs a.0 b.0)
+
+-- the cleared range of a view whose log grew
+pub cleared-longer : (c : Config) (v : ℕ) (log more : List LogEntry) (cleared : Option Span) → Begins log more → IsClearedBy (paged_at c v log) cleared → IsClearedBy (paged_at c v more) cleared
+cleared-longer c v log more None front k = tt
+cleared-longer c v log more (Some s) front k = record {
+  group = k.group;
+  range = k.range;
+  within = k.within;
+  present = present-longer (paged_at c v log).base log more k.group front k.present;
+}
+
+pub taken-longer : (c : Config) (v : ℕ) (log more : List LogEntry) (cleared : Option Span) (ws : List Window) → Begins log more → AllTaken c v log cleared ws → AllTaken c v more cleared ws
+taken-longer c v log more cleared [] front all = tt
+taken-longer c v log more cleared (w ∷ ws) front all =
+    (record { seen = all.0.seen; front = begins-through all.0.seen log more all.0.front front; is = all.0.is; clear = all.0.clear }, taken-longer c v log more cleared ws front all.1)
+
+pub truthful-longer : (c : Config) (log more : List LogEntry) (w : Windows) → Begins log more → AreTruthful c log w → AreTruthful c more w
+truthful-longer c log more w front k = record {
+  held = taken-longer c w.view log more w.cleared w.held.items front k.held;
+  cleared = cleared-longer c w.view log more w.cleared front k.cleared;
+}
+
+-- the window of a line, where one is held
+record IsFound (c : Config) (v : ℕ) (log : List LogEntry) (cleared : Option Span) (line : ℕ) (w : Window) : Type 0 where
+  line_is : w.line ≡ line
+  taken : IsTaken c v log cleared w
+
+found-taken : (c : Config) (v : ℕ) (log : List LogEntry) (cleared : Option Span) (line : ℕ) (w : Window) (ws : List Window) → AllTaken c v log cleared ws
+    → window_at line ws ≡ Some w → IsFound c v log cleared line w
+found-taken c v log cleared line w [] all e = absurd (cc)
+found-taken c v log cleared line w (x ∷ xs) all e =
+    elim (x.line == line) as (λ b. (x.line == line) ≡ b → cond b (Some x) (find (λ (y : Window). y.line == line) xs) ≡ Some w → IsFound c v log cleared line w) [
+      | true ↦ λ t h. let same : x ≡ w = cc in subst (λ y. IsFound c v log cleared line y) same (record { line_is = grind (arith, nat_tests, t); taken = all.0 })
+      | false ↦ λ t h. found-taken c v log cleared line w xs all.1 h
+    ] refl e
+
+-- two halfwords are the original ones of a present group, from halfword n on
+pub record IsOriginal (p : PagedView) (n first second : ℕ) : Type 0 where
+  pub first_is : first ≡ half_of p.text n
+  pub second_is : group_in p.groups.starts (2 * (n + 1)) ≡ group_in p.groups.starts (2 * n) → 2 * (n + 1) < end_in p.groups.text (2 * n) → second ≡ half_of p.text (n + 1)
+  pub present : is_present p.base p.log (group_in p.groups.starts (2 * n)) ≡ true
 
 apart : (a b : ℕ) → a ≢ b → (a == b) ≡ false
 apart a b ne = grind (arith, nat_tests)
 
--- a pair that is taken from the pages is truthful
-filled-by : (p : PagedView) (cleared : Option Span) (n : ℕ) (here : Bool) → is_present p.base p.log (group_in p.groups.starts (2 * n)) ≡ here
-    → IsGroups p.groups → ((s : Span) → cleared ≡ Some s → IsClearedOf p s) → HeldIs p cleared (pair_of p n)
-filled-by p cleared n true here good truth = inl (record {
-  first = rw here refl;
-  second = λ same. rw (same, here) refl;
-  present = here;
-})
-filled-by p None n false here good truth = inr (record { zero = rw here refl; uncleared = λ q inside half. refl })
-filled-by p (Some s) n false here good truth = inr (record {
-  zero = rw here refl;
-  uncleared = λ q inside half.
-      let k : IsClearedOf p s = truth s refl in
-      let range : IsRangeOf p.groups k.group (range_of p.groups k.group) = range_is p.groups k.group good k.within in
-      let group : group_at p.groups q ≡ group_in p.groups.starts (2 * n) = group-half p.groups q good ∙ ap (λ x. group_in p.groups.starts (2 * x)) half in
-      let other : holds (range_of p.groups k.group) q ≡ (group_at p.groups q == k.group) = range.each q inside in
-      let not_it : group_at p.groups q ≢ k.group = λ e. absurd (cc (k.present, here, ap (λ g. is_present p.base p.log g) (sym group ∙ e))) in
-      rw k.range (other ∙ apart (group_at p.groups q) k.group not_it);
-})
+-- a place of a cleared group is not one of an absent group
+cleared-present : (p : PagedView) (cleared : Option Span) (q n : ℕ) → IsGroups p.groups → IsClearedBy p cleared → in_text p.groups.text q ≡ true → half_no p.groups.text q ≡ n
+    → is_present p.base p.log (group_in p.groups.starts (2 * n)) ≡ false → is_cleared cleared q ≡ false
+cleared-present p None q n good k inside half absent = refl
+cleared-present p (Some s) q n good k inside half absent =
+    let range : IsRangeOf p.groups k.group (range_of p.groups k.group) = range_is p.groups k.group good k.within in
+    let group : group_at p.groups q ≡ group_in p.groups.starts (2 * n) = group-half p.groups q good ∙ ap (λ x. group_in p.groups.starts (2 * x)) half in
+    let other : holds (range_of p.groups k.group) q ≡ (group_at p.groups q == k.group) = range.each q inside in
+    let not_it : group_at p.groups q ≢ k.group = λ e. absurd (cc (k.present, absent, ap (λ g. is_present p.base p.log g) (sym group ∙ e))) in
+    rw k.range (other ∙ apart (group_at p.groups q) k.group not_it)
 
-pub fill-held : (p : PagedView) (cleared : Option Span) (n : ℕ) → IsGroups p.groups → ((s : Span) → cleared ≡ Some s → IsClearedOf p s) → HeldIs p cleared (pair_of p n)
-fill-held p cleared n good truth = filled-by p cleared n (is_present p.base p.log (group_in p.groups.starts (2 * n))) refl good truth
+module _ (c : Config) (ok : IsConfig c) where
+  good : IsGroups (groups_in c)
+  good = groups-good c.image ok.image
 
--- an entry more takes nothing away
-pub present-more : (p : PagedView) (e : LogEntry) (g : ℕ) → is_present p.base p.log g ≡ true → is_present p.base (p.log ++ e ∷ []) g ≡ true
-present-more p e g h = grind (arith, common_steps, h)
+  -- the halfwords of a window at a place of text and behind it are those of the mask
+  window-first : (v : ℕ) (seen : List LogEntry) (p : ℕ) (w : Window) → in_text (groups_in c).text p ≡ true → w.line ≡ line_no (groups_in c).text p → w ≡ window_of (paged_at c v seen) w.line
+      → first_in (groups_in c).text p w ≡ masked (paged_at c v seen) (half_no (groups_in c).text p)
+  window-first v seen p w inside line is =
+      let text : List Span = (groups_in c).text in
+      let below : offset_in (groups_in c).text p < text_size (groups_in c).text = offset_below (groups_in c).text RAM_START p good.text.ranges inside in
+      let at : w ≡ window_of (paged_at c v seen) (line_no (groups_in c).text p) = is ∙ ap (λ n. window_of (paged_at c v seen) n) line in
+      ap (λ (x : Window). slice_index x.halves (half_in_line (groups_in c).text p)) at
+      ∙ windows_are_of_the_mask (paged_at c v seen) (line_no (groups_in c).text p) (half_in_line (groups_in c).text p) good ok.image.text.long (omega (arith, below)) (omega arith) (λ e. absurd (omega (arith, e)))
+      ∙ ap (λ n. masked (paged_at c v seen) n) (line-half (groups_in c).text p)
 
-pub present-new : (p : PagedView) (e : LogEntry) → is_present p.base (p.log ++ e ∷ []) e.group ≡ true
-present-new p e = grind (arith, common_steps, nat_tests)
+  window-second : (v : ℕ) (seen : List LogEntry) (p : ℕ) (w : Window) → in_text (groups_in c).text p ≡ true → w.line ≡ line_no (groups_in c).text p → w ≡ window_of (paged_at c v seen) w.line
+      → 2 * (half_no (groups_in c).text p + 1) < end_in (groups_in c).text (2 * half_no (groups_in c).text p)
+      → second_in (groups_in c).text p w ≡ masked (paged_at c v seen) (half_no (groups_in c).text p + 1)
+  window-second v seen p w inside line is more =
+      let below : offset_in (groups_in c).text p < text_size (groups_in c).text = offset_below (groups_in c).text RAM_START p good.text.ranges inside in
+      let at : w ≡ window_of (paged_at c v seen) (line_no (groups_in c).text p) = is ∙ ap (λ n. window_of (paged_at c v seen) n) line in
+      let half : 32 * line_no (groups_in c).text p + half_in_line (groups_in c).text p ≡ half_no (groups_in c).text p = line-half (groups_in c).text p in
+      let near = end_near (groups_in c).text RAM_START (64 * line_no (groups_in c).text p) good.text.ranges (omega (arith, below)) in
+      let pages : end_in (groups_in c).text (64 * line_no (groups_in c).text p) % 4096 ≡ 0 = end-pages (groups_in c).text RAM_START (64 * line_no (groups_in c).text p) good.text.ranges (omega (arith, below)) in
+      let low : half_in_line (groups_in c).text p < 32 = omega arith in
+      let same : end_in (groups_in c).text (64 * line_no (groups_in c).text p + 2 * half_in_line (groups_in c).text p) ≡ end_in (groups_in c).text (64 * line_no (groups_in c).text p) =
+      end-within (groups_in c).text (64 * line_no (groups_in c).text p) (2 * half_in_line (groups_in c).text p) (omega (arith, near.0, pages, low)) in
+      let place : 64 * line_no (groups_in c).text p + 2 * half_in_line (groups_in c).text p ≡ 2 * half_no (groups_in c).text p = omega (arith, half) in
+      let end : end_in (groups_in c).text (2 * half_no (groups_in c).text p) ≡ end_in (groups_in c).text (64 * line_no (groups_in c).text p) = ap (λ n. end_in (groups_in c).text n) (sym place) ∙ same in
+      ap (λ (x : Window). slice_index x.halves (half_in_line (groups_in c).text p + 1)) at
+      ∙ windows_are_of_the_mask (paged_at c v seen) (line_no (groups_in c).text p) (half_in_line (groups_in c).text p + 1) good ok.image.text.long (omega (arith, below)) (omega (arith, low)) (λ e. omega (arith, e, half, more, end))
+      ∙ ap (λ n. masked (paged_at c v seen) n) (omega (arith, half))
 
-cleared-logged : (p : PagedView) (e : LogEntry) (s : Span) → IsClearedOf p s → IsClearedOf (logged p e) s
-cleared-logged p e s k = record { group = k.group; range = k.range; within = k.within; present = present-more p e k.group k.present }
+  -- truthful windows hold the original of what is read, whose group is present
+  pub read-original : (v : ℕ) (log : List LogEntry) (w : Windows) (begins goes : StepStart) (r : IsRead (groups_in c).text w begins goes) → w.view ≡ v → AreTruthful c log w
+      → in_text (groups_in c).text r.place ≡ true
+      → IsOriginal (paged_at c v log) (half_no (groups_in c).text r.place) (first_in (groups_in c).text r.place r.window) (second_in (groups_in c).text r.place r.window)
+  read-original v log w begins goes r view truth inside =
+      let all : AllTaken c v log w.cleared w.held.items = subst (λ u. AllTaken c u log w.cleared w.held.items) view truth.held in
+      by_found (found-taken c v log w.cleared (line_no (groups_in c).text r.place) r.window w.held.items all r.held) where
+        by_found : IsFound c v log w.cleared (line_no (groups_in c).text r.place) r.window
+            → IsOriginal (paged_at c v log) (half_no (groups_in c).text r.place) (first_in (groups_in c).text r.place r.window) (second_in (groups_in c).text r.place r.window)
+        by_found f =
+            let q : PagedView = paged_at c v f.taken.seen in
+            let n : ℕ = half_no (groups_in c).text r.place in
+            let first : first_in (groups_in c).text r.place r.window ≡ masked (paged_at c v f.taken.seen) (half_no (groups_in c).text r.place) = window-first v f.taken.seen r.place r.window inside f.line_is f.taken.is in
+            elim (is_present (paged_at c v f.taken.seen).base f.taken.seen (group_in (groups_in c).starts (2 * half_no (groups_in c).text r.place)))
+            as (λ b. is_present (paged_at c v f.taken.seen).base f.taken.seen (group_in (groups_in c).starts (2 * half_no (groups_in c).text r.place)) ≡ b
+            → IsOriginal (paged_at c v log) (half_no (groups_in c).text r.place) (first_in (groups_in c).text r.place r.window) (second_in (groups_in c).text r.place r.window)) [
+              | true ↦ λ here. record {
+                first_is = first ∙ (rw here refl);
+                second_is = λ same more. window-second v f.taken.seen r.place r.window inside f.line_is f.taken.is more ∙ (rw (same, here) refl);
+                present = present-longer (paged_at c v f.taken.seen).base f.taken.seen log (group_in (groups_in c).starts (2 * half_no (groups_in c).text r.place)) f.taken.front here;
+              }
+              | false ↦ λ here.
+                  let zero : first_in (groups_in c).text r.place r.window ≡ 0 = first ∙ (rw here refl) in
+                  let is_it : is_cleared w.cleared r.place ≡ true = r.zero_cleared zero in
+                  let is_not : is_cleared w.cleared r.place ≡ false = cleared-present (paged_at c v f.taken.seen) w.cleared r.place (half_no (groups_in c).text r.place) good f.taken.clear inside refl here in
+                  absurd (cc)
+            ] refl
 
-held-logged : (p : PagedView) (e : LogEntry) (cleared : Option Span) (pair : Pair) → HeldIs p cleared pair → HeldIs (logged p e) cleared pair
-held-logged p e cleared pair (inl o) = inl (record { first = o.first; second = o.second; present = present-more p e (group_in p.groups.starts (2 * pair.at)) o.present })
-held-logged p e cleared pair (inr m) = inr (record { zero = m.zero; uncleared = m.uncleared })
+  -- the place of a fetch, and the halfwords that it would read again
+  if-place : (text : Bool) (q p : ℕ) → place_if text q ≡ Some p → (text ≡ true) × (q ≡ p)
+  if-place true q p e = (refl, cc)
+  if-place false q p e = absurd (cc)
 
-pub truthful-logged : (p : PagedView) (e : LogEntry) (w : Windows) → AreTruthful p w → AreTruthful (logged p e) w
-truthful-logged p e w k = record {
-  held = λ pair h. held-logged p e w.cleared pair (k.held pair h);
-  cleared = λ s h. cleared-logged p e s (k.cleared s h);
-}
+  module _ (ram : Ram) (has : HasText ram (groups_in c).text (bytes_of c.image.ranges)) (v : ℕ) (log : List LogEntry) (place first second : ℕ)
+      (o : IsOriginal (paged_at c v log) (half_no (groups_in c).text place) first second) where
+    first-same : is_text ram place ≡ true → first ≡ half_at ram place
+    first-same e = o.first_is ∙ sym (text-half ram (groups_in c).text (bytes_of c.image.ranges) place has e)
 
--- truthful windows hold the original of what is read, whose group is present
-pub read-original : (p : PagedView) (w : Windows) (begins goes : Ready) (r : IsRead p.groups.text w begins goes) → AreTruthful p w
-    → Rattle.function_table.specs.Groups.in_text p.groups r.place ≡ true → IsOriginal p r.pair
-read-original p w begins goes r truth inside = by_held (truth.held r.pair r.held) where
-  by_held : HeldIs p w.cleared r.pair → IsOriginal p r.pair
-  by_held (inl o) = o
-  by_held (inr m) =
-      let here : is_cleared w.cleared r.place ≡ true = r.zero_cleared m.zero in
-      let gone : is_cleared w.cleared r.place ≡ false = m.uncleared r.place inside (sym r.at) in
-      absurd (cc)
+    second-same : (g : ℕ) → is_text ram place ≡ true → half_at ram place % 4 ≡ 3 → IsBehind ram place g → second ≡ g
+    second-same g e wide b =
+        let half : half_at ram place ≡ half_of (bytes_of c.image.ranges) (half_no (groups_in c).text place) = text-half ram (groups_in c).text (bytes_of c.image.ranges) place has e in
+        let inside : in_text (groups_in c).text place ≡ true = subst (λ t. in_text t place ≡ true) has.same e in
+        let high : place < RAM_START + RAM_MOST = has.below.high place inside in
+        let behind : b.place ≡ place + 2 = omega (arith, b.behind, high) in
+        let more : in_text (groups_in c).text (place + 2) ≡ true = subst (λ q. in_text (groups_in c).text q ≡ true) behind (subst (λ t. in_text t b.place ≡ true) has.same b.text) in
+        let next = next-half (groups_in c).text place has.below.ranges inside more in
+        let same : group_in (groups_in c).starts (2 * (half_no (groups_in c).text place + 1)) ≡ group_in (groups_in c).starts (2 * half_no (groups_in c).text place) =
+        joined c.image (half_no (groups_in c).text place) ok.image next.1 (rw (← half) wide) in
+        let number : half_no (groups_in c).text b.place ≡ half_no (groups_in c).text place + 1 = ap (λ q. half_no (groups_in c).text q) behind ∙ next.0 in
+        o.second_is same next.1 ∙ ap (λ n. half_of (bytes_of c.image.ranges) n) (sym number) ∙ sym (text-half ram (groups_in c).text (bytes_of c.image.ranges) b.place has b.text) ∙ sym b.half
 
--- the place of a fetch, and the halfwords that it would read again
-if-place : (text : Bool) (q p : ℕ) → place_if text q ≡ Some p → (text ≡ true) × (q ≡ p)
-if-place true q p e = (refl, cc)
-if-place false q p e = absurd (cc)
-
-module _ (p : PagedView) (ram : Ram) (good : IsGroups p.groups) (has : HasText ram p.groups.text p.text)
-    (joined : (n : ℕ) → 2 * (n + 1) < end_in p.groups.text (2 * n) → half_of p.text n % 4 ≡ 3 → group_in p.groups.starts (2 * (n + 1)) ≡ group_in p.groups.starts (2 * n))
-    (place : ℕ) (pair : Pair) (at : pair.at ≡ half_no p.groups.text place) (o : IsOriginal p pair) where
-  first-same : is_text ram place ≡ true → first_of pair ≡ half_at ram place
-  first-same e = o.first ∙ ap (λ n. half_of p.text n) at ∙ sym (text-half ram p.groups.text p.text place has e)
-
-  second-same : (g : ℕ) → is_text ram place ≡ true → half_at ram place % 4 ≡ 3 → IsBehind ram place g → second_of pair ≡ g
-  second-same g e wide b =
-      let half : half_at ram place ≡ half_of p.text pair.at = text-half ram p.groups.text p.text place has e ∙ ap (λ n. half_of p.text n) (sym at) in
-      let inside : in_text p.groups.text place ≡ true = subst (λ t. in_text t place ≡ true) has.same e in
-      let high : place < RAM_START + RAM_MOST = has.below.high place inside in
-      let behind : b.place ≡ place + 2 = omega (arith, b.behind, high) in
-      let more : in_text p.groups.text (place + 2) ≡ true = subst (λ q. in_text p.groups.text q ≡ true) behind (subst (λ t. in_text t b.place ≡ true) has.same b.text) in
-      let next = next-half p.groups.text place has.below.ranges inside more in
-      let room : 2 * (pair.at + 1) < end_in p.groups.text (2 * pair.at) = rw at next.1 in
-      let same : group_in p.groups.starts (2 * (pair.at + 1)) ≡ group_in p.groups.starts (2 * pair.at) = joined pair.at room (rw (← half) wide) in
-      let number : half_no p.groups.text b.place ≡ pair.at + 1 = ap (λ q. half_no p.groups.text q) behind ∙ next.0 ∙ ap (λ n. n + 1) (sym at) in
-      o.second same ∙ ap (λ n. half_of p.text n) (sym number) ∙ sym (text-half ram p.groups.text p.text b.place has b.text) ∙ sym b.half
-
-  -- the fetch with the pair's halfwords is the fetch itself
-  pub got-same : (got : Fetched) → HalvesAre ram got → text_place got ≡ Some place → with_halves got (first_of pair) (second_of pair) ≡ got
-  got-same (Short text q h) k e =
-      let here : (text ≡ true) × (q ≡ place) = if-place text q place e in
-      let inside : is_text ram place ≡ true = subst (λ x. is_text ram x ≡ true) here.1 (k.text_is ∙ here.0) in
-      ap (λ x. Short text q x) (first-same inside ∙ ap (λ x. half_at ram x) (sym here.1) ∙ sym k.first)
-  got-same (Long text q h g) k e =
-      let here : (text ≡ true) × (q ≡ place) = if-place text q place e in
-      let inside : is_text ram place ≡ true = subst (λ x. is_text ram x ≡ true) here.1 (k.text_is ∙ here.0) in
-      let first : first_of pair ≡ h = first-same inside ∙ ap (λ x. half_at ram x) (sym here.1) ∙ sym k.first in
-      let wide : half_at ram place % 4 ≡ 3 = subst (λ x. x % 4 ≡ 3) (k.first ∙ ap (λ x. half_at ram x) here.1) k.wide in
-      let second : second_of pair ≡ g = second-same g inside wide (subst (λ x. IsBehind ram x g) here.1 (k.second here.0)) in
-      rw (first, second) refl
-  got-same (Faults cause tval) k e = absurd (cc)
-  got-same (Stops stop) k e = absurd (cc)
+    -- the fetch with these halfwords is the fetch itself
+    pub got-same : (got : Fetched) → HalvesAre ram got → text_place got ≡ Some place → with_halves got first second ≡ got
+    got-same (Short text q h) k e =
+        let here : (text ≡ true) × (q ≡ place) = if-place text q place e in
+        let inside : is_text ram place ≡ true = subst (λ x. is_text ram x ≡ true) here.1 (k.text_is ∙ here.0) in
+        ap (λ x. Short text q x) (first-same inside ∙ ap (λ x. half_at ram x) (sym here.1) ∙ sym k.first)
+    got-same (Long text q h g) k e =
+        let here : (text ≡ true) × (q ≡ place) = if-place text q place e in
+        let inside : is_text ram place ≡ true = subst (λ x. is_text ram x ≡ true) here.1 (k.text_is ∙ here.0) in
+        let one : first ≡ h = first-same inside ∙ ap (λ x. half_at ram x) (sym here.1) ∙ sym k.first in
+        let wide : half_at ram place % 4 ≡ 3 = subst (λ x. x % 4 ≡ 3) (k.first ∙ ap (λ x. half_at ram x) here.1) k.wide in
+        let two : second ≡ g = second-same g inside wide (subst (λ x. IsBehind ram x g) here.1 (k.second here.0)) in
+        rw (one, two) refl
+    got-same (Faults cause tval) k e = absurd (cc)
+    got-same (Stops stop) k e = absurd (cc)

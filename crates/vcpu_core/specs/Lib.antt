@@ -1,4 +1,8 @@
 pub mod Lanes
+pub mod Placed
+pub mod Truthful
+pub mod Turns
+pub mod Rows
 pub mod World
 pub mod Waits
 pub mod First
@@ -6,3 +10,5 @@ pub mod Sound
 pub mod Missed
 pub mod Whole
 pub mod Stages
+pub mod Bound
+pub mod Undisturbed

@@ -1,8 +1,7 @@
 -- The view machine: a board, the views, and a lane for each vCPU, and what one event does to them.
 -- The rule: an event of a vCPU that may step goes by its lane's phase; a step, a need, a trap, a fill, a lookup or a mend.
-use Rattle.std.specs.Prelude.{◌≡◌, ℕ, ◌+◌, ◌*◌, ◌<◌, ◌≤◌, true, if◌then◌else◌, List, [], ◌∷◌, length, slice_index_or, slice_set, map}
-use Rattle.fc_numbers.specs.Spans.{text_size}
-use Rattle.function_table.specs.Groups.{Groups, groups_count, in_text, IsGroups}
+use Rattle.std.specs.Prelude.{◌≡◌, ℕ, ◌+◌, ◌*◌, ◌<◌, ◌≤◌, if◌then◌else◌, List, [], ◌∷◌, length, slice_index_or, slice_set, map}
+use Rattle.function_table.specs.Groups.{Groups, IsGroups}
 use Rattle.chain_log.specs.declared.entry.LogEntry.{LogEntry}
 use Rattle.view_file.specs.declared.views.Views.{Views}
 use Rattle.view_file.specs.declared.views.TheConstants.{APPS_MOST}
@@ -18,6 +17,8 @@ use Rattle.vcpu_core.specs.declared.lane.Phase.TheVariants.{Running, Wants, Trap
 use Rattle.vcpu_core.specs.declared.lane.Went.{Went}
 use Rattle.vcpu_core.specs.declared.lane.Went.TheVariants.{Over, Stepped, Erased}
 use Rattle.vcpu_core.specs.Lanes.{blank_windows, seated, after_turn, after_fill, after_look, after_mend, went_by}
+use Rattle.vcpu_core.specs.Placed.{IsPlaced}
+use Rattle.vcpu_core.specs.Truthful.{IsOfView}
 
 -- the profile's views and the groups of the text, which stay; the board, the views and the lanes, which change
 pub record World : Type 0 where
@@ -54,7 +55,7 @@ abbrev pub windows_of : World → ℕ → Lane → Windows
 windows_of w i l = seated (view_of w i) l.windows
 
 abbrev pub verdict_in : World → ℕ → Windows → Verdict
-verdict_in w i windows = verdict_of w.board.steps w.board.state i windows
+verdict_in w i windows = verdict_of w.board.rules w.board.state i windows
 
 abbrev pub with_lane : World → ℕ → Lane → World
 with_lane w i l = record w { lanes = slice_set w.lanes i l }
@@ -83,10 +84,10 @@ went_in w i l (Looked looked) = Erased
 
 -- the world after `go` of vCPU i, and what the event was
 unfoldable pub go_of : World → ℕ → World
-go_of w i = if may w.board.steps w.board.state i then gone w i (lane_of w i) (lane_of w i).phase else w
+go_of w i = if may w.board.rules w.board.state i then gone w i (lane_of w i) (lane_of w i).phase else w
 
 unfoldable pub went_of : World → ℕ → Went
-went_of w i = if may w.board.steps w.board.state i then went_in w i (lane_of w i) (lane_of w i).phase else Over
+went_of w i = if may w.board.rules w.board.state i then went_in w i (lane_of w i) (lane_of w i).phase else Over
 
 -- the world after a list of go's
 abbrev pub go_all : World → List ℕ → World
@@ -103,25 +104,11 @@ abbrev pub erased : World → List ℕ → List ℕ
 erased w [] = []
 erased w (i ∷ is) = kept_if (went_of w i) i (erased (go_of w i) is)
 
--- what a phase keeps lies in text, and is of the lane's view
-abbrev pub IsPlaced : Groups → Lane → Phase → Type 0
-IsPlaced groups l Running = Unit {0}
-IsPlaced groups l (Wants n) = 2 * n < text_size groups.text
-IsPlaced groups l (Trapped t) = (t.view ≡ l.windows.view) × (in_text groups t.pc ≡ true)
-IsPlaced groups l (Looked k) = (k.entry.view ≡ l.windows.view) × (k.group < groups_count groups) × (k.entry.group ≡ k.group)
-
--- in every phase but the running one the lane's view is its vCPU's
-abbrev pub HasView : ℕ → Lane → Phase → Type 0
-HasView v l Running = Unit {0}
-HasView v l (Wants n) = l.windows.view ≡ v
-HasView v l (Trapped t) = l.windows.view ≡ v
-HasView v l (Looked k) = l.windows.view ≡ v
-
 pub record IsLaneReady (w : World) (i : ℕ) (l : Lane) : Type 0 where
   pub number : l.vcpu ≡ i
   pub view : l.windows.view < length w.paged_views
   pub placed : IsPlaced w.groups l l.phase
-  pub has_view : HasView (view_of w i) l l.phase
+  pub has_view : IsOfView (view_of w i) l l.phase
 
 pub record IsPagedReady (w : World) (v : ℕ) (p : PagedView) : Type 0 where
   pub number : p.number ≡ v
@@ -133,6 +120,6 @@ pub record IsReady (w : World) : Type 0 where
   pub text : w.board.state.ram.text ≡ w.groups.text
   pub apps : length w.profile.apps ≤ APPS_MOST
   pub views : length w.paged_views ≡ length w.profile.apps + 1
-  pub lanes : length w.lanes ≡ length w.board.state.vcpus
+  pub lanes : length w.lanes ≡ length w.board.state.slots
   pub paged_views : (v : ℕ) → v < length w.paged_views → IsPagedReady w v (paged_in w.paged_views v)
   pub each : (i : ℕ) → i < length w.lanes → IsLaneReady w i (lane_of w i)

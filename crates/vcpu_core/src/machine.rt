@@ -11,12 +11,15 @@ ghost use Rattle.run_evidence.specs.Config.{Config, groups_in};
 ghost use Rattle.vcpu_core.specs.declared.lane.Lane.{Lane};
 ghost use Rattle.vcpu_core.specs.declared.lane.Phase.{Phase};
 ghost use Rattle.vcpu_core.specs.First.{first_world, first_paged_views, first_lanes, first_paged, first_lane};
+ghost use Rattle.vcpu_core.specs.Placed.{IsPlaced};
 ghost use Rattle.vcpu_core.specs.Stages.{AreStagesFor};
-ghost use Rattle.vcpu_core.specs.Waits.{left_of};
-ghost use Rattle.vcpu_core.specs.World.{World, go_of, went_of, go_all, gone, went_in, IsPlaced, IsReady, IsLaneReady, HasView, paged_in, blank_paged, lane_of, view_of};
+ghost use Rattle.vcpu_core.specs.Turns.{went_then};
+ghost use Rattle.vcpu_core.specs.Waits.{all_left, left_of};
+ghost use Rattle.vcpu_core.specs.World.{World, go_of, went_of, go_all, gone, went_in, IsReady, IsLaneReady, paged_in, blank_paged, lane_of, view_of};
 
-use crate::lane::{Lane, Phase, Went, fill, look_up, mend, turn};
+use crate::lane::{Lane, Phase, Then, Went};
 use crate::open::{start_lanes, start_stages, start_views};
+use crate::rows::{fill, look_up, mend, turn};
 use chain_log::entry::LogEntry;
 use fc_numbers::machine::End;
 use fc_numbers::memory::NoMemory;
@@ -24,12 +27,10 @@ use fc_numbers::places::{VcpuNo, ViewNo};
 use function_table::table::Table;
 use gstage::table::GTable;
 use guest_board::board::Board;
-use guest_board::seen::Windows;
 use guest_input::image::Image;
 use guest_input::setup::Setup;
 use std::alloc::Global;
 use std::marker::Model;
-use std::mem;
 use view_file::views::Views;
 use view_store::view::View;
 
@@ -58,6 +59,17 @@ impl<'a> Model for Core<'a> {
     ghost invariant = { IsWhole };
 }
 
+/// What the one event of a turn with limit 1 was.
+fn went_by(then: Then) -> Went
+    ensures { result ≡ went_then then }
+{
+    match then {
+        Then::Limit => Went::Stepped,
+        Then::Need | Then::Zero => Went::Erased,
+        Then::Over => Went::Over,
+    }
+}
+
 /// One event by the lane's phase.
 #[tactic(auto, unfolding(crate::specs::World::gone, crate::specs::World::went_in))]
 fn event(
@@ -68,7 +80,7 @@ fn event(
     views: &mut [View],
     lane: &mut Lane,
 ) -> Went
-    requires number { lane.old.vcpu < length board.old.state.vcpus }
+    requires number { lane.old.vcpu < length board.old.state.slots }
     requires view { lane.old.windows.view < length views.old }
     requires paged { (paged_in views.old lane.old.windows.view).number ≡ lane.old.windows.view }
     requires groups { (paged_in views.old lane.old.windows.view).groups ≡ table.now }
@@ -81,24 +93,23 @@ fn event(
     ensures answer { (lanes : List Lane) →
         (let old : World = record { profile = profile.now; groups = table.now; board = board.old; paged_views = views.old; lanes = lanes } in
         result ≡ went_in old lane.old.vcpu lane.old lane.old.phase) }
+    ensures stages { AreStagesFor board.new.state.ram (length profile.now.apps + 1) stages.now }
 {
-    match mem::replace(&mut lane.phase, Phase::Running) {
-        Phase::Running => {
-            let view = profile.choose(board.name_of(lane.vcpu));
-            turn(board, profile, &stages[view.0 as usize], lane)
-        }
-        Phase::Wants(n) => {
+    match lane.phase {
+        Phase::Running => went_by(turn(board, profile, stages, lane, 1).then),
+        Phase::Wants(_) => {
             let view = lane.windows.view.0 as usize;
-            fill(&views[view], n, lane);
+            fill(&views[view], lane);
             Went::Erased
         }
-        Phase::Trapped(trap) => {
-            look_up(table, trap, lane);
+        Phase::Trapped(_) => {
+            look_up(table, lane);
             Went::Erased
         }
-        Phase::Looked(looked) => {
+        Phase::Looked(_) => {
             let view = lane.windows.view.0 as usize;
-            mend(&mut views[view], table, looked, lane);
+            // Restored or found present: the event is the same.
+            let _ = mend(&mut views[view], table, lane);
             Went::Erased
         }
     }
@@ -164,13 +175,24 @@ impl<'a> Core<'a> {
         self.views[v.0 as usize].log()
     }
 
+    /// The board and the views, as they are.
+    pub fn into_parts(self) -> (Board, Vec<View>)
+        ensures board { result.0 ≡ self.entry.board }
+        ensures views { result.1.items ≡ self.entry.paged_views }
+    {
+        let Core { board, views, .. } = self;
+        (board, views)
+    }
+
     /// One event of vCPU i, by the phase of its lane: a step, a need, a trap, a fill, a lookup or a mend; `Over` exactly
-    /// where the vCPU may not step, and then nothing changes. At most nine events of a vCPU stand between two of its steps.
-    #[tactic(auto, using(crate::proofs::Waiting::go_left))]
+    /// where the vCPU may not step, and then nothing changes. Of ten events of a vCPU, between which no other vCPU steps,
+    /// at least one is a step. Each event but `Over` leaves less of the vCPU's run, and less of the run of all.
+    #[tactic(auto, using(crate::proofs::Waiting::go_left, crate::proofs::LeftOver::go_falls))]
     pub fn go(&mut self, i: VcpuNo) -> Went
         ensures after { self.new ≡ go_of self.old i }
         ensures answer { result ≡ went_of self.old i }
         ensures nearer { result ≢ Went.Over → left_of self.new i < left_of self.old i }
+        ensures falls { result ≢ Went.Over → all_left self.new < all_left self.old }
     {
         self.make_event(i)
     }
@@ -180,7 +202,6 @@ impl<'a> Core<'a> {
         ensures after { self.new ≡ go_of self.old i }
         ensures answer { result ≡ went_of self.old i }
         ensures ready { IsReady self.old }
-        ensures counts { length self.old.board.state.counts ≡ length self.old.board.state.vcpus }
     {
         if !self.board.may(i) {
             return Went::Over;

@@ -9,6 +9,7 @@ ghost use Rattle.vcpu_core.specs.Stages.{AreOfKind, AreStagesFor};
 ghost use Rattle.vcpu_core.specs.First.{first_paged_views, first_lanes};
 
 use crate::lane::{Lane, Phase};
+use arrayvec::ArrayVec;
 use fc_numbers::machine::GKind;
 use fc_numbers::memory::NoMemory;
 use fc_numbers::places::{VcpuNo, ViewNo};
@@ -23,7 +24,7 @@ use view_file::views::Views;
 use view_store::view::View;
 
 /// A view for each app and the full view, each with its base and an empty log.
-#[tactic(auto, unfolding(crate::specs::First::first_paged_views), using(crate::proofs::Bases::base_of_long))]
+#[tactic(auto, unfolding(crate::specs::First::first_paged_views), using(crate::proofs::Bases::base_of_long, crate::proofs::Bases::one_more))]
 pub(crate) fn start_views(
     alloc: Global,
     image: &Image,
@@ -67,7 +68,7 @@ pub(crate) fn start_stages(
 }
 
 /// Lanes of this view that run and hold nothing.
-#[tactic(auto, unfolding(crate::specs::First::first_lanes))]
+#[tactic(auto, unfolding(crate::specs::First::first_lanes), using(crate::proofs::Bases::one_more))]
 pub(crate) fn start_lanes(alloc: Global, view: ViewNo, count: u8) -> Result<Vec<Lane>, NoMemory>
     ensures { IfOk result (λ lanes. lanes.items ≡ first_lanes view count) }
 {
@@ -77,7 +78,7 @@ pub(crate) fn start_lanes(alloc: Global, view: ViewNo, count: u8) -> Result<Vec<
             vcpu: VcpuNo(i),
             windows: Windows {
                 view,
-                held: None,
+                held: ArrayVec::new(),
                 cleared: None,
             },
             phase: Phase::Running,

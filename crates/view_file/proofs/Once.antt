@@ -22,9 +22,9 @@ use Rattle.view_file.specs.declared.fault.ViewFault.TheVariants.{NotJson, Shape,
 use Rattle.view_file.specs.declared.written.Written.{Written}
 use Rattle.view_file.specs.declared.written.WrittenApp.{WrittenApp}
 use Rattle.view_file.specs.Base.{all_listed}
-use Rattle.view_file.specs.Fits.{IsInOrder, IsAppOf, AreAppsOf, IsViewsOf, Reads, all_written}
+use Rattle.view_file.specs.Fits.{IsInOrder, IsAppOf, AreAppsOf, IsViewsOf, Parses, Reads, all_written}
 use Rattle.view_file.specs.Least.{contains, IsLeastUnknown}
-use Rattle.view_file.specs.Once.{ReadsOnce}
+use Rattle.view_file.specs.Once.{ReadsOnce, ParsesOnce}
 use Rattle.view_file.specs.Written.{writing_of}
 use Rattle.view_file.proofs.Leasts.{listed_same}
 
@@ -254,3 +254,23 @@ reads_once bytes i (Ok u) (Ok v) a b m n = ap Ok (same-views bytes i u v a b)
 reads_once bytes i (Ok u) (Err g) a b m n = absurd (reads-apart bytes i u g (λ e. n (ap Err e)) a b)
 reads_once bytes i (Err f) (Ok v) a b m n = absurd (reads-apart bytes i v f (λ e. m (ap Err e)) b a)
 reads_once bytes i (Err f) (Err g) a b m n = ap Err (one-reading bytes i f g (λ e. m (ap Err e)) (λ e. n (ap Err e)) a b)
+
+-- a fault of parsing is that of what is written
+when-unparsed : (bytes : List ℕ) (f : ViewFault) → f ≢ NoMemory → Parses bytes (Err f) → writing_of bytes ≡ Err f
+when-unparsed bytes NotJson other a = a
+when-unparsed bytes Shape other a = a
+when-unparsed bytes BadName other a = a
+when-unparsed bytes TooManyApps other a = a
+when-unparsed bytes NoMemory other a = absurd (other refl)
+when-unparsed bytes OtherText other a = absurd a
+when-unparsed bytes (UnknownFunction n) other a = absurd a
+
+pub parses_once : ParsesOnce
+parses_once bytes (Ok u) (Ok v) a b m n =
+    let written : a.0 ≡ b.0 = cc (sym a.1 ∙ b.1) in
+    ap Ok (one-views b.0 u v (subst (λ (w : Written). IsViewsOf w u) written a.2) b.2)
+parses_once bytes (Ok u) (Err g) a b m n = absurd (ok-or-err (writing_of bytes) a.0 g a.1 (when-unparsed bytes g (λ e. n (ap Err e)) b))
+parses_once bytes (Err f) (Ok v) a b m n = absurd (ok-or-err (writing_of bytes) b.0 f b.1 (when-unparsed bytes f (λ e. m (ap Err e)) a))
+parses_once bytes (Err f) (Err g) a b m n =
+    let same : f ≡ g = cc (sym (when-unparsed bytes f (λ e. m (ap Err e)) a) ∙ when-unparsed bytes g (λ e. n (ap Err e)) b) in
+    ap Err same

@@ -1,6 +1,7 @@
 -- What restoring a group does to the mask, and what a patch does to the log.
-use Rattle.std.proofs.Common.{◌≡◌, ℕ, ◌+◌, ◌-◌, ◌*◌, ◌/◌, ◌%◌, ◌<◌, ◌≤◌, Bool, true, false, List, [], ◌∷◌, ◌++◌, length, arith, refl, ◌∙◌, sym}
-use Rattle.std.proofs.lemmas.List.{get_or_past}
+use Rattle.std.proofs.Common.{◌≡◌, ℕ, ◌+◌, ◌-◌, ◌*◌, ◌/◌, ◌%◌, ◌<◌, ◌≤◌, Bool, true, false, List, [], ◌∷◌, ◌++◌, length, take, drop, replicate, ap, arith, refl, ◌∙◌, sym}
+use Rattle.std.proofs.lemmas.List.{get_or-drop, get_or-take, get_or_append_left, get_or_past, length-drop, length-take-le}
+use Rattle.std.proofs.Math.Seq.{get_or-append_seam}
 use Rattle.std.proofs.lemmas.List.FromFn.{fill_by_all, get_or-map-range_with_len, length-map-range_with_len}
 use borrow.Author.Tests.{ltb-true, ltb-false}
 use Rattle.std.proofs.lemmas.List.Sums.{count_by-le-length, sum_by-set}
@@ -9,12 +10,13 @@ use Rattle.std.proofs.lemmas.Grind.{common_steps}
 use Rattle.std.proofs.lemmas.Bool.Decides.{nat_tests}
 use Rattle.fc_numbers.specs.declared.places.Span.{Span}
 use Rattle.fc_numbers.specs.declared.places.TheConstants.{RAM_START}
-use Rattle.fc_numbers.specs.Spans.{AreRangesFrom, offset_in, place_in, size_of, text_size}
-use Rattle.fc_numbers.proofs.TextLaws.{offset_page, offset_place, size_pages}
+use Rattle.fc_numbers.specs.Spans.{AreRangesFrom, end_in, offset_in, place_in, size_of, text_size}
+use Rattle.fc_numbers.specs.declared.window.Window.{Window}
+use Rattle.fc_numbers.proofs.TextLaws.{end_near, offset_page, offset_place, size_pages}
 use Rattle.function_table.specs.Groups.{Groups, IsGroups, IsRangeOf, first_of, group_in, groups_count, half_of, in_text, is_between, range_of}
 use Rattle.function_table.proofs.GroupLemmas.{ends-within}
 use Rattle.chain_log.specs.declared.entry.LogEntry.{LogEntry}
-use Rattle.view_store.specs.Paged.{PagedView, masked, logged, patched, is_present, is_logged, AreMissed, IsLawfulView, mask_of}
+use Rattle.view_store.specs.Paged.{PagedView, masked, logged, patched, is_present, is_logged, AreMissed, IsLawfulView, WindowsAreOfTheMask, mask_of, window_of}
 
 -- halfwords past the end of text are 0
 half-past : (text : List ℕ) (n : ℕ) → length text ≤ 2 * n → half_of text n ≡ 0
@@ -40,37 +42,71 @@ halves-between : (o start end from to n : ℕ) → o % 2 ≡ 0 → start % 2 ≡
     → is_between from to n ≡ is_between o (o + (end - start)) (2 * n)
 halves-between o start end from to n even_o even_start even_end from_is to_is = grind (arith, nat_tests)
 
--- the halfwords of a group's range lie within the pages
-pub range-within : (t : Groups) (g from size long : ℕ) (s : Span) → IsGroups t → g < groups_count t → s ≡ range_of t g → from ≡ offset_in t.text s.start / 2
-    → size ≡ (s.end - s.start) / 2 → text_size t.text ≡ 2 * long → from + size ≤ long
-range-within t g from size long s good within is from_is size_is pages =
+-- the halfwords of a group's range lie within text
+pub range-within : (t : Groups) (g from size : ℕ) (s : Span) → IsGroups t → g < groups_count t → s ≡ range_of t g → from ≡ offset_in t.text s.start / 2
+    → size ≡ (s.end - s.start) / 2 → 2 * (from + size) ≤ text_size t.text
+range-within t g from size s good within is from_is size_is =
     let few : g ≤ length t.starts = omega arith in
     let ends = ends-within (text_size t.text) g t.starts good.starts few in
     let at : offset_in t.text (place_in t.text (first_of t g)) ≡ first_of t g = offset_place t.text RAM_START (first_of t g) good.text.ranges (omega (arith, ends.0, ends.1)) in
     let all : offset_in t.text s.start + (s.end - s.start) ≤ text_size t.text = rw is (omega (arith, ends.0, ends.1, at)) in
-    omega (arith, all, from_is, size_is, pages)
+    omega (arith, all, from_is, size_is)
 
--- the halfwords between the ends of a group's range are those of the group
-pub restored-group : (t : Groups) (g from to n : ℕ) (s : Span) (text pages : List ℕ) → IsRangeOf t g s → AreRangesFrom RAM_START t.text → text_size t.text ≡ length text
-    → 2 * length pages ≡ length text → from ≡ offset_in t.text s.start / 2 → to ≡ from + (s.end - s.start) / 2
+-- the halfwords of a group's range are those of the group
+pub halves-of-group : (t : Groups) (g from to n : ℕ) (s : Span) → IsRangeOf t g s → AreRangesFrom RAM_START t.text
+    → from ≡ offset_in t.text s.start / 2 → to ≡ from + (s.end - s.start) / 2 → 2 * n < text_size t.text
+    → is_between from to n ≡ (group_in t.starts (2 * n) == g)
+halves-of-group t g from to n s range ranges from_is to_is within =
+    let even : offset_in t.text s.start % 2 ≡ 0 = start-even t g s range ranges in
+    let each : is_between (offset_in t.text s.start) (offset_in t.text s.start + size_of s) (2 * n) ≡ (group_in t.starts (2 * n) == g) = range.bytes (2 * n) within in
+    halves-between (offset_in t.text s.start) s.start s.end from to n even range.even_start range.even_end from_is to_is ∙ each
+
+-- restoring the halfwords of a group, and no others
+pub restored-group : (t : Groups) (g from to n : ℕ) (text pages : List ℕ) → text_size t.text ≡ length text → 2 * length pages ≡ length text
+    → (2 * n < text_size t.text → is_between from to n ≡ (group_in t.starts (2 * n) == g))
     → (if is_between from to n then half_of text n else slice_index pages n) ≡ (if group_in t.starts (2 * n) == g then half_of text n else slice_index pages n)
-restored-group t g from to n s text pages range ranges size long from_is to_is =
+restored-group t g from to n text pages size long same =
     elim (nat_lt (2 * n) (length text)) as (λ b. nat_lt (2 * n) (length text) ≡ b → (if is_between from to n then half_of text n else slice_index pages n) ≡ (if group_in t.starts (2 * n) == g then half_of text n else slice_index pages n)) [
-      | true ↦ λ is. inside (ltb-true (2 * n) (length text) is)
-      | false ↦ λ is. past (ltb-false (2 * n) (length text) is)
-    ] refl where
-      inside : 2 * n < length text → (if is_between from to n then half_of text n else slice_index pages n) ≡ (if group_in t.starts (2 * n) == g then half_of text n else slice_index pages n)
-      inside within =
-          let even : offset_in t.text s.start % 2 ≡ 0 = start-even t g s range ranges in
-          let each : is_between (offset_in t.text s.start) (offset_in t.text s.start + size_of s) (2 * n) ≡ (group_in t.starts (2 * n) == g) = range.bytes (2 * n) (omega (arith, within, size)) in
-          let halves : is_between from to n ≡ is_between (offset_in t.text s.start) (offset_in t.text s.start + size_of s) (2 * n) =
-          halves-between (offset_in t.text s.start) s.start s.end from to n even range.even_start range.even_end from_is to_is in
-          let same : is_between from to n ≡ (group_in t.starts (2 * n) == g) = halves ∙ each in
-          rw same refl
+      | true ↦ λ is. rw (same (omega (arith, ltb-true (2 * n) (length text) is, size))) refl
+      | false ↦ λ is. same-either (is_between from to n) (group_in t.starts (2 * n) == g) (half_of text n) (slice_index pages n)
+          (half-past text n (ltb-false (2 * n) (length text) is) ∙ sym (get_or_past pages n 0 (omega (arith, long, ltb-false (2 * n) (length text) is))))
+    ] refl
 
-      past : length text ≤ 2 * n → (if is_between from to n then half_of text n else slice_index pages n) ≡ (if group_in t.starts (2 * n) == g then half_of text n else slice_index pages n)
-      past over = same-either (is_between from to n) (group_in t.starts (2 * n) == g) (half_of text n) (slice_index pages n)
-          (half-past text n over ∙ sym (get_or_past pages n 0 (omega arith)))
+-- each mark of a block that is kept whole
+kept-mark : (mark size many k : ℕ) → many ≤ size → k < many → slice_index (take many (replicate size mark)) k ≡ mark
+kept-mark mark size many k within low = grind (arith, common_steps)
+
+-- one more block of halfwords is restored
+pub block-restored : (mark size from at end half was now new k : ℕ) → nat_lt 0 mark ≡ true → from ≤ at → at ≤ end → end ≤ at + size
+    → new ≡ (if is_between at (at + length (take (end - at) (replicate size mark))) k then (if slice_index (take (end - at) (replicate size mark)) (k - at) == 0 then 0 else half) else now)
+    → now ≡ (if is_between from at k then half else was)
+    → new ≡ (if is_between from end k then half else was)
+block-restored mark size from at end half was now new k kept order within few is_new is_now =
+    let long : length (take (end - at) (replicate size mark)) ≡ end - at = grind (arith, common_steps) in
+    elim (is_between at end k) as (λ b. is_between at end k ≡ b → new ≡ (if is_between from end k then half else was)) [
+      | true ↦ λ is.
+          let low : at ≤ k = grind (arith, nat_tests) in
+          let high : k < end = grind (arith, nat_tests) in
+          let each : slice_index (take (end - at) (replicate size mark)) (k - at) ≡ mark = kept-mark mark size (end - at) (k - at) (omega arith) (omega arith) in
+          grind (arith, nat_tests)
+      | false ↦ λ is. grind (arith, nat_tests)
+    ] refl
+
+-- one more block of halfwords is kept or zeroed by its marks
+pub block-kept : (marks : List ℕ) (at end half was now new k : ℕ) → at ≤ end → end ≤ length marks
+    → new ≡ (if is_between at (at + length (take (end - at) (drop at marks))) k then (if slice_index (take (end - at) (drop at marks)) (k - at) == 0 then 0 else half) else now)
+    → now ≡ (if nat_lt k at then (if slice_index marks k == 0 then 0 else half) else was)
+    → new ≡ (if nat_lt k end then (if slice_index marks k == 0 then 0 else half) else was)
+block-kept marks at end half was now new k order within is_new is_now =
+    let long : length (take (end - at) (drop at marks)) ≡ end - at = grind (arith, common_steps) in
+    elim (is_between at end k) as (λ b. is_between at end k ≡ b → new ≡ (if nat_lt k end then (if slice_index marks k == 0 then 0 else half) else was)) [
+      | true ↦ λ is.
+          let low : at ≤ k = grind (arith, nat_tests) in
+          let high : k < end = grind (arith, nat_tests) in
+          let each : slice_index (take (end - at) (drop at marks)) (k - at) ≡ slice_index marks k = grind (arith, common_steps) in
+          grind (arith, nat_tests)
+      | false ↦ λ is. grind (arith, nat_tests)
+    ] refl
 
 -- halfword n of the mask
 pub mask_at : (p : PagedView) (n : ℕ) → IsLawfulView p → slice_index (mask_of p) n ≡ masked p n
@@ -94,21 +130,18 @@ mask_at p n good =
 pub mask_same : (p : PagedView) (pages : List ℕ) → IsLawfulView p → 2 * length pages ≡ length p.text → ((n : ℕ) → slice_index pages n ≡ masked p n) → pages ≡ mask_of p
 mask_same p pages good long each = fill_by_all (masked p) pages (length p.text / 2) 0 (omega (arith, long)) (λ k h. each k)
 
--- one more group of the mask
-pub mask-kept : (kept : ℕ → Bool) (group g half new old : ℕ) → kept g ≡ true → new ≡ (if group == g then half else old)
-    → old ≡ (if kept group && nat_lt group g then half else 0) → new ≡ (if kept group && nat_lt group (g + 1) then half else 0)
-mask-kept kept group g half new old is e was = grind (arith, nat_tests)
+-- a text is whole halfwords
+pub text-even : (t : Groups) → IsGroups t → 2 * (text_size t.text / 2) ≡ text_size t.text
+text-even t good = omega (arith, size_pages t.text RAM_START good.text.ranges)
 
-pub mask-left : (kept : ℕ → Bool) (group g half old : ℕ) → kept g ≡ false
-    → old ≡ (if kept group && nat_lt group g then half else 0) → old ≡ (if kept group && nat_lt group (g + 1) then half else 0)
-mask-left kept group g half old is was = grind (arith, nat_tests)
+-- one more group is marked
+pub mark-kept : (kept : ℕ → Bool) (group g mark was new now : ℕ) → kept g ≡ true → new ≡ (if group == g then mark else now)
+    → now ≡ (if kept group && nat_lt group g then mark else was) → new ≡ (if kept group && nat_lt group (g + 1) then mark else was)
+mark-kept kept group g mark was new now is is_new is_now = grind (arith, nat_tests)
 
-pub mask-whole : (kept : ℕ → Bool) (t : Groups) (n half old : ℕ)
-    → old ≡ (if kept (group_in t.starts (2 * n)) && nat_lt (group_in t.starts (2 * n)) (groups_count t) then half else 0)
-    → old ≡ (if kept (group_in t.starts (2 * n)) then half else 0)
-mask-whole kept t n half old was =
-    let below : group_in t.starts (2 * n) < groups_count t = omega (arith, count_by-le-length (λ start. nat_le start (2 * n)) t.starts) in
-    grind (arith, nat_tests)
+pub mark-left : (kept : ℕ → Bool) (group g mark was now : ℕ) → kept g ≡ false
+    → now ≡ (if kept group && nat_lt group g then mark else was) → now ≡ (if kept group && nat_lt group (g + 1) then mark else was)
+mark-left kept group g mark was now is is_now = grind (arith, nat_tests)
 
 -- one more entry makes its group present, and no other
 pub logged-append : (log : List LogEntry) (e : LogEntry) (g : ℕ) → is_logged (log ++ e ∷ []) g ≡ (is_logged log g || (e.group == g))
@@ -173,3 +206,50 @@ pub patched-groups : (p : PagedView) (e : LogEntry) → (patched p e).groups ≡
 patched-groups p e = elim (is_present p.base p.log e.group) as (λ b. (if b then p else logged p e).groups ≡ p.groups) [ true ↦ refl | false ↦ refl ]
 
 pub ruleset patched_keeps = (patched-number, patched-groups)
+
+-- the halfwords of a line of text lie within the pages, and so does the one behind it where the range goes on
+pub line-within : (t : Groups) (line long : ℕ) → IsGroups t → text_size t.text ≡ 2 * long → 64 * line < text_size t.text
+    → (32 * line + 32 ≤ long) × (64 * line + 64 < end_in t.text (64 * line) → 32 * line + 32 < long)
+line-within t line long good whole within =
+    let pages : text_size t.text % 4096 ≡ 0 = size_pages t.text RAM_START good.text.ranges in
+    let near = end_near t.text RAM_START (64 * line) good.text.ranges within in
+    (omega (arith, pages, whole, within), λ more. omega (arith, near.1, more, whole))
+
+-- a line that is copied from pages that are the mask is the window of the mask
+pub window-of : (p : PagedView) (pages : List ℕ) (line : ℕ) → pages ≡ mask_of p → ((n : ℕ) → slice_index pages n ≡ masked p n)
+    → (let copy : Window = record { line = line; halves = take 32 (drop (32 * line) pages) ++ (if nat_lt (64 * line + 64) (end_in p.groups.text (64 * line)) then slice_index pages (32 * line + 32) else 0) ∷ [] } in copy) ≡ window_of p line
+unfolding window_of
+window-of p pages line same each = rw (each (32 * line + 32), same) refl
+
+part-long : (n : ℕ) (m : List ℕ) (from : ℕ) → from + n ≤ length m → length (take n (drop from m)) ≡ n
+part-long n m from room = length-take-le n (drop from m) (let long = length-drop from m in omega (arith, long, room))
+
+within-part : (n : ℕ) (m : List ℕ) (x from k : ℕ) → from + n ≤ length m → k < n → slice_index (take n (drop from m) ++ x ∷ []) k ≡ slice_index m (from + k)
+within-part n m x from k room low =
+    get_or_append_left (take n (drop from m)) (x ∷ []) 0 k (let long = part-long n m from room in omega (arith, long, low))
+    ∙ get_or-take n (drop from m) k 0 low ∙ get_or-drop from m k 0
+
+behind-part : (n : ℕ) (m : List ℕ) (x from : ℕ) → from + n ≤ length m → slice_index (take n (drop from m) ++ x ∷ []) n ≡ x
+behind-part n m x from room =
+    ap (λ i. slice_index (take n (drop from m) ++ x ∷ []) i) (sym (part-long n m from room)) ∙ get_or-append_seam (take n (drop from m)) x [] 0
+
+-- a halfword of the mask, where text has whole pages
+mask_half : (p : PagedView) (n : ℕ) → n < length p.text / 2 → slice_index (mask_of p) n ≡ masked p n
+mask_half p n within = get_or-map-range_with_len (masked p) 0 (length p.text / 2) n n 0 within (omega arith)
+
+pub windows_are_of_the_mask : WindowsAreOfTheMask
+unfolding window_of
+windows_are_of_the_mask p n k good size inside low goes_on =
+    let whole : text_size p.groups.text % 4096 ≡ 0 = size_pages p.groups.text RAM_START good.text.ranges in
+    let long : length (mask_of p) ≡ length p.text / 2 = length-map-range_with_len (masked p) 0 (length p.text / 2) in
+    let room : 32 * n + 32 ≤ length (mask_of p) = omega (arith, whole, long, size, inside) in
+    let last : ℕ = if nat_lt (64 * n + 64) (end_in p.groups.text (64 * n)) then masked p (32 * n + 32) else 0 in
+    elim (nat_lt k 32) as (λ b. nat_lt k 32 ≡ b → slice_index (take 32 (drop (32 * n) (mask_of p)) ++ last ∷ []) k ≡ masked p (32 * n + k)) [
+      | true ↦ λ is.
+          let first : k < 32 = ltb-true k 32 is in
+          within-part 32 (mask_of p) last (32 * n) k room first ∙ mask_half p (32 * n + k) (omega (arith, long, room, first))
+      | false ↦ λ is.
+          let at : k ≡ 32 = omega (arith, ltb-false k 32 is, low) in
+          let test : nat_lt (64 * n + 64) (end_in p.groups.text (64 * n)) ≡ true = (let more : 64 * n + 64 < end_in p.groups.text (64 * n) = goes_on at in grind (arith, nat_tests, more)) in
+          ap (λ i. slice_index (take 32 (drop (32 * n) (mask_of p)) ++ last ∷ []) i) at ∙ behind-part 32 (mask_of p) last (32 * n) room ∙ (rw test (ap (λ i. masked p (32 * n + i)) (sym at)))
+    ] refl

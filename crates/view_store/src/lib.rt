@@ -7,8 +7,8 @@
 //! Promised: a view's pages are always the mask of its base and of the groups of its log; a patch restores a whole
 //! group and logs it, exactly where the group is absent, and otherwise changes nothing.
 //!
-//! Below stand the image, the table of groups and the log entries. The lanes of the vCPUs stand above: they read
-//! pairs of halfwords and ask for patches. A view never changes the text, and knows of no vCPU but in its log.
+//! Below stand the image, the table of groups and the log entries. The lanes of the vCPUs stand above: they take
+//! windows of a line each and ask for patches. A view never changes the text, and knows of no vCPU but in its log.
 #![tactic(auto)]
 
 pub mod laws;

@@ -64,6 +64,7 @@ fn text(alloc: Global) -> Result<Vec<u8>, NoMemory>
     bytes[..28].copy_from_slice(&JOINED);
     bytes[4094] = 0x67;
     bytes[4096] = 0x13;
+    bytes[8128] = 0xa5;
     Ok(bytes)
 }
 
@@ -110,31 +111,45 @@ fn a_missing_group_is_restored_whole_and_once(rt: HostRuntime) -> Result<(), Fai
     assert!(rt; table.groups() == 3);
     assert!(rt; text_size(table.text()) == 8192);
     let mut view = View::build(alloc, &image, &table, ViewNo(1), base)?;
-    for (at, halves) in [
-        (0, [0x00ef, 0x00c0]),
-        (5, [0x0001, 0]),
-        (6, [0, 0]),
-        (13, [0, 0]),
-        (2047, [0, 0]),
-        (4095, [0, 0]),
+    for (line, at, half) in [
+        (0, 0, 0x00ef),
+        (0, 5, 0x0001),
+        (0, 6, 0),
+        (0, 13, 0),
+        (63, 31, 0),
+        (127, 0, 0),
     ] {
-        assert!(rt; view.pair(at).halves == halves, "at {at}");
+        assert!(rt; view.window(line).halves[at] == half, "line {line}");
     }
     assert!(rt; !view.present(GroupNo(1)));
     assert!(rt; view.patch(entry_of(1, 7)) == Patched::Recovered);
     assert!(rt; view.patch(entry_of(1, 8)) == Patched::WasPresent);
     assert!(rt; view.patch(entry_of(0, 9)) == Patched::WasPresent);
-    for (at, halves) in [
-        (0, [0x00ef, 0x00c0]),
-        (5, [0x0001, 0x4885]),
-        (12, [0x8067, 0x8082]),
-        (2047, [0x0067, 0]),
-        (2048, [0, 0]),
+    for (line, at, half) in [
+        (0, 0, 0x00ef),
+        (0, 6, 0x4885),
+        (0, 12, 0x8067),
+        (0, 13, 0x8082),
+        (62, 32, 0),
+        (63, 31, 0x0067),
+        (64, 0, 0),
     ] {
-        assert!(rt; view.pair(at).halves == halves, "at {at}");
+        assert!(rt; view.window(line).halves[at] == half, "line {line}");
     }
     assert!(rt; view.patch(entry_of(2, 10)) == Patched::Recovered);
-    assert!(rt; view.pair(2048).halves == [0x0013, 0]);
+    for (line, at, half) in [
+        // The halfword behind the last line of a range is not that of the next range.
+        (63, 32, 0),
+        (64, 0, 0x0013),
+        // The halfword behind a line within a range is that of the next line.
+        (126, 32, 0x00a5),
+        // Nothing stands behind the last line of text.
+        (127, 0, 0x00a5),
+        (127, 32, 0),
+    ] {
+        assert!(rt; view.window(line).halves[at] == half, "line {line}");
+    }
+    assert!(rt; view.window(63).line == 63);
     assert!(rt; view.present(GroupNo(2)));
     assert!(rt; view.log().len() == 2);
     assert!(rt; view.log().first().is_some_and(|entry| entry.at == 7));

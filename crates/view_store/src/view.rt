@@ -4,14 +4,15 @@ ghost use Rattle.std.specs.Prelude.{◌≡◌, ◌≤◌, ◌<◌, ◌+◌, ◌*
 ghost use Rattle.fc_numbers.specs.Spans.{text_size};
 ghost use Rattle.guest_input.specs.Text.{bytes_of};
 ghost use Rattle.function_table.specs.Groups.{groups_count};
-ghost use Rattle.view_store.specs.Paged.{IsLawfulView, is_present, mask_of, masked, pair_of, patched};
+ghost use Rattle.view_store.specs.Paged.{IsLawfulView, is_present, mask_of, masked, patched, window_of};
 
-use crate::pages::{mask, restore_group};
+use crate::pages::{copy_line, mask, restore_group};
 use chain_log::entry::LogEntry;
 use fc_numbers::memory::NoMemory;
-use fc_numbers::pair::Pair;
 use fc_numbers::places::{GroupNo, ViewNo};
 use fc_numbers::shared::SharedBytes;
+use fc_numbers::spans::end_of;
+use fc_numbers::window::{LINE, Window};
 use function_table::table::Table;
 use guest_input::image::Image;
 use std::alloc::Global;
@@ -86,21 +87,15 @@ impl View {
         self.number
     }
 
-    /// The halfwords number `at` and `at + 1` of the pages, 0 past the end of text.
-    pub fn pair(&self, at: u32) -> Pair
-        requires { 2 * at < text_size self.now.groups.text }
-        ensures { result ≡ pair_of self.now at }
+    /// Line `line` of the pages as they are, and the halfword behind it: 0 where the line's range of text ends.
+    #[tactic(auto, unfolding(crate::specs::Paged::window_of))]
+    pub fn window(&self, line: u32) -> Window
+        requires { 64 * line < text_size self.now.groups.text }
+        ensures { result ≡ window_of self.now line }
     {
-        let first = at as usize;
-        let second = if first + 1 < self.pages.len() {
-            self.pages[first + 1]
-        } else {
-            0
-        };
-        Pair {
-            at,
-            halves: [self.pages[first], second],
-        }
+        let from = LINE * line as u64;
+        let end = end_of(self.table.text(), from);
+        copy_line(&self.pages, line, from + LINE < end)
     }
 
     /// The mask, halfword by halfword.

@@ -1,5 +1,5 @@
 use Rattle.std.proofs.Common.{◌≡◌, ◌≤◌, subst, sym, true}
-use Rattle.guest_input.specs.Text.{spans_of, start_place}
+use Rattle.guest_input.specs.Text.{start_place}
 use Rattle.function_table.specs.Groups.{Groups, groups_of, has_start, in_text}
 use Rattle.chain_log.specs.Line.{holder_of}
 use Rattle.chain_log.proofs.Holders.{holder-inside, holder-starts}

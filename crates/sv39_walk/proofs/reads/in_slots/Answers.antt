@@ -1,5 +1,5 @@
-use Rattle.std.proofs.Common.{◌≡◌, ◌++◌, ◌∷◌, [], List, drop, length, get_or, arith}
-use Rattle.std.specs.Prelude.{All, Contains, replicate}
+use Rattle.std.proofs.Common.{◌∷◌, [], List, drop, length, get_or, arith}
+use Rattle.std.specs.Prelude.{Contains, replicate}
 use Rattle.std.proofs.lemmas.List.Elements.{All-append, All-contains_itself, All-drop, All-replicate, Contains-append_left, Contains-append_right}
 use Rattle.sv39_walk.specs.declared.cache.Read.{Read}
 use Rattle.sv39_walk.proofs.reads.in_slots.Goals as goal

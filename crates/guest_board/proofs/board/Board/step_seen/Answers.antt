@@ -3,8 +3,11 @@ use Rattle.guest_board.proofs.board.Board.step_seen.Goals as goal
 
 pub trapped-requires : goal.trapped-requires
 trapped-requires g c =
-    may-vcpu c.args.self.now.steps c.args.self.now.state c.args.i
-    (zeroes_may c.args.self.now.steps c.args.self.now.state c.args.i c.in-Zeroes.place c.args.seen.now c.in-Zeroes.ensures)
+    rw c.in-Zeroes.ensures.stays
+    (may-vcpu c.args.self.now.rules c.args.self.now.state c.args.i
+    (zeroes_may c.args.self.now.rules c.args.self.now.state c.args.i c.in-Zeroes.place c.args.seen.now c.in-Zeroes.ensures.value))
 
 pub go_on-requires-clause-may : goal.go_on-requires-clause-may
-go_on-requires-clause-may g c = goes_may c.args.self.now.steps c.args.self.now.state c.args.i c.in-Goes.ready c.args.seen.now c.in-Goes.ensures
+go_on-requires-clause-may g c =
+    rw c.in-Goes.ensures.stays
+    (goes_may c.args.self.now.rules c.args.self.now.state c.args.i c.in-Goes.start c.args.seen.now c.in-Goes.ensures.value)

@@ -5,20 +5,20 @@ use Rattle.std.proofs.lemmas.List.{with_items_is}
 use Rattle.std.proofs.lemmas.Grind.{common_steps}
 use Rattle.guest_ram.specs.Ram.{IsLaid}
 use Rattle.guest_board.specs.Board.{may}
-use Rattle.guest_board.proofs.Steps.{may-vcpu}
-use Rattle.rv_step.specs.Kept.{KeepsText}
+use Rattle.run_evidence.proofs.Steps.{may-slot}
 use Rattle.view_store.specs.Paged.{PagedView}
 use Rattle.vcpu_core.specs.declared.lane.Lane.{Lane}
 use Rattle.vcpu_core.specs.World.{World, IsReady, IsLaneReady, IsPagedReady, lane_of, paged_in, gone}
+use Rattle.gstage.specs.Table.{Table}
+use Rattle.vcpu_core.specs.Stages.{AreStagesFor}
 use Rattle.vcpu_core.specs.Whole.{world_of}
 use Rattle.vcpu_core.proofs.Ready.{gone-ready}
-use Rattle.vcpu_core.proofs.Staged.{stages_kept, gone_keeps}
 use Rattle.vcpu_core.proofs.machine.Core.make_event.Goals as goal
 
 -- the lane at a number
-ready_lane : (w : World) (i : ℕ) (l : Lane) → may w.board.steps w.board.state i ≡ true → IsReady w → l ≡ slice_index_or w.lanes i l → IsLaneReady w i l
+ready_lane : (w : World) (i : ℕ) (l : Lane) → may w.board.rules w.board.state i ≡ true → IsReady w → l ≡ slice_index_or w.lanes i l → IsLaneReady w i l
 ready_lane w i l m r e =
-    let within : i < length w.lanes = omega (arith, may-vcpu w.board.steps w.board.state i m, r.lanes) in
+    let within : i < length w.lanes = omega (arith, may-slot w.board.rules w.board.state i m, r.lanes) in
     let same : l ≡ lane_of w i = grind (arith, common_steps) in
     subst (IsLaneReady w i) (sym same) (r.each i within)
 
@@ -26,13 +26,13 @@ ready_lane w i l m r e =
 ready_in : (c : goal.After-index_mut) → IsLaneReady (world_of c.self.inside) c.args.i c.index_mut.result.now
 ready_in c =
     let at : c.index_mut.result.now ≡ slice_index_or c.self.inside.lanes.items c.args.i c.index_mut.result.now = grind (arith, common_steps) in
-    ready_lane (world_of c.self.inside) c.args.i c.index_mut.result.now (sym c.if-not-may.ensures.answer) c.self.invariant.ready at
+    ready_lane (world_of c.self.inside) c.args.i c.index_mut.result.now (sym c.if-not-may.ensures) c.self.invariant.ready at
 
 pub event-requires-clause-number : goal.event-requires-clause-number
 event-requires-clause-number c =
     let ready : IsLaneReady (world_of c.self.inside) c.args.i c.index_mut.result.now = ready_in c in
-    let below : c.args.i < length c.self.inside.board.state.vcpus = may-vcpu c.self.inside.board.steps c.self.inside.board.state c.args.i (sym c.if-not-may.ensures.answer) in
-    subst (λ x. x < length c.self.inside.board.state.vcpus) (sym ready.number) below
+    let below : c.args.i < length c.self.inside.board.state.slots = may-slot c.self.inside.board.rules c.self.inside.board.state c.args.i (sym c.if-not-may.ensures) in
+    subst (λ x. x < length c.self.inside.board.state.slots) (sym ready.number) below
 
 pub event-requires-clause-view : goal.event-requires-clause-view
 event-requires-clause-view c =
@@ -63,7 +63,7 @@ invariant_of-self c =
     let w : World = world_of c.self.inside in
     let l : Lane = c.index_mut.result.now in
     let at : l ≡ slice_index_or c.self.inside.lanes.items c.args.i l = grind (arith, common_steps) in
-    let m : may w.board.steps w.board.state c.args.i ≡ true = sym c.if-not-may.ensures.answer in
+    let m : may w.board.rules w.board.state c.args.i ≡ true = sym c.if-not-may.ensures in
     let ready : IsLaneReady w c.args.i l = ready_lane w c.args.i l m c.self.invariant.ready at in
     let laid : IsLaid w.board.state.ram = subst IsLaid c.ram.ensures c.text-laid.ensures.laid in
     let going : IsReady (gone w c.args.i l l.phase) = gone-ready w c.args.i l l.phase m c.self.invariant.ready laid ready refl in
@@ -80,9 +80,7 @@ invariant_of-self c =
     let as_long : length c.event.new.views ≡ vec_len c.self.inside.views = fourth.views ∙ sym c.self.invariant.ready.views ∙ long in
     let same : (with_items c.self.inside.views c.event.new.views).items ≡ c.event.new.views = with_items_is c.self.inside.views c.event.new.views as_long in
     let fifth : IsReady (after (with_items c.self.inside.views c.event.new.views).items c.args.i) = subst (λ x. IsReady (after x c.args.i)) (sym same) fourth in
-    let kept : KeepsText w.board.state.ram c.event.new.board.state.ram
-    = subst (λ (x : World). KeepsText w.board.state.ram x.board.state.ram) (sym third) (gone_keeps w c.args.i l l.phase laid) in
     record {
       ready = subst (λ n. IsReady (after (with_items c.self.inside.views c.event.new.views).items n)) (sym c.i.view_is) fifth;
-      stages = stages_kept w.board.state.ram c.event.new.board.state.ram (length c.self.inside.profile.now.apps + 1) c.self.inside.stages.items kept c.self.invariant.stages;
+      stages = subst (λ (ts : List Table). AreStagesFor c.event.new.board.state.ram (length c.self.inside.profile.now.apps + 1) ts) c.deref.ensures.value c.event.ensures.stages;
     }

@@ -1,0 +1,5 @@
+pub mod Generator
+pub mod Program
+pub mod Text
+pub mod Hostile
+pub mod Guest

@@ -1,0 +1,5 @@
+pub mod ByView
+pub mod Few
+pub mod Pushed
+pub mod Traced
+pub mod Zeros
