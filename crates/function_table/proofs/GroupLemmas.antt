@@ -1,7 +1,10 @@
 -- A group's range has exactly the places of that group; joined starts; counts of starts.
 use Rattle.std.proofs.Common.{◌≡◌, ℕ, zero, suc, ◌+◌, ◌-◌, ◌*◌, ◌/◌, ◌%◌, ◌<◌, ◌≤◌, Bool, true, false, List, [], ◌∷◌, length, arith, refl, ap, sym, subst, ◌∙◌, Some, None}
-use Rattle.std.specs.Prelude.{◌==◌, ◌&&◌, ◌||◌, All, Contains, nat_le, nat_lt, if◌then◌else◌, slice_index, slice_index_or, count_by, filter}
-use Rattle.std.specs.List.Sorted.{IsPartitionPoint, IsNonDecreasingBy}
+use Rattle.std.specs.Prelude.{◌==◌, ◌&&◌, ◌||◌, All, Contains, nat_le, nat_lt, if◌then◌else◌, slice_index, slice_index_or, count_by, filter, Result, Ok, Err, is_ok}
+use Rattle.std.specs.List.{list_any}
+use Rattle.std.specs.List.Sorted.{IsBinarySearchResult, IsPartitionPoint, IsNonDecreasingBy}
+use Rattle.std.specs.Ordering.{nat_cmp}
+use Rattle.std.proofs.lemmas.List.Sorted.{searched}
 use borrow.Author.Tests.{leb-true, leb-false}
 use Rattle.std.proofs.lemmas.Grind.{common_steps}
 use Rattle.std.proofs.lemmas.Bool.Decides.{nat_tests}
@@ -492,3 +495,28 @@ function-starts (x ∷ xs) size offset good =
     let counted : group_in (x ∷ xs) offset ≡ 1 + group_in xs offset = rw (group_in-cons x offset xs) (grind (arith, nat_tests)) in
     let index : function_in (x ∷ xs) offset ≡ group_in xs offset = omega (arith, counted) in
     rw index (starts-below x offset size xs up start)
+
+found-any : (xs : List ℕ) (x k : ℕ) → k < length xs → slice_index_or xs k 0 ≡ x → list_any (λ y. y == x) xs ≡ true
+found-any [] x k within is = absurd (omega arith)
+found-any (y ∷ ys) x zero within is = grind (arith, nat_tests, is)
+found-any (y ∷ ys) x (suc k) within is =
+    let rest : list_any (λ z. z == x) ys ≡ true = found-any ys x k (omega arith) is in grind (arith, nat_tests, rest)
+
+apart-any : (xs : List ℕ) (x : ℕ) → ((k : ℕ) → k < length xs → slice_index_or xs k 0 ≡ x → ⊥) → list_any (λ y. y == x) xs ≡ false
+apart-any [] x apart = refl
+apart-any (y ∷ ys) x apart =
+    let rest : list_any (λ z. z == x) ys ≡ false = apart-any ys x (λ k within is. apart (suc k) (omega arith) is) in
+    let head : y ≡ x → ⊥ = λ is. apart 0 (omega arith) is in
+    grind (arith, nat_tests, rest, head)
+
+-- a binary search finds a number exactly where it is there
+pub searched-any : (xs : List ℕ) (x : ℕ) (r : Result ℕ ℕ) → IsNonDecreasingBy (λ y. y) xs → IsBinarySearchResult (λ y. nat_cmp y x) xs r → is_ok r ≡ list_any (λ y. y == x) xs
+searched-any xs x (Ok i) up answer =
+    let found = searched xs x (Ok i) answer (λ j k below within. up j k 0 below within) in
+    sym (found-any xs x i found.0 found.1)
+searched-any xs x (Err i) up answer =
+    let found = searched xs x (Err i) answer (λ j k below within. up j k 0 below within) in
+    sym (apart-any xs x (λ k within is. elim (nat_lt k i) as (λ b. nat_lt k i ≡ b → ⊥) [
+      | true ↦ λ t. let low : slice_index_or xs k 0 < x = found.1 k (grind (arith, nat_tests, t)) in omega (arith, low, is)
+      | false ↦ λ t. let high : x < slice_index_or xs k 0 = found.2 k (grind (arith, nat_tests, t)) within in omega (arith, high, is)
+    ] refl))

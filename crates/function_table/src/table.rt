@@ -1,7 +1,8 @@
 //! The table of functions and groups.
 
-ghost use Rattle.std.specs.Prelude.{All, [], ◌∷◌, Some, None, ◌≡◌, ◌≤◌, ◌<◌, ◌+◌, ◌^◌, if◌then◌else◌, length, filter, slice_index, slice_index_or, IfOk, IfSome};
+ghost use Rattle.std.specs.Prelude.{All, [], ◌∷◌, Some, None, ◌≡◌, ◌≤◌, ◌<◌, ◌+◌, ◌^◌, ◌==◌, if◌then◌else◌, length, filter, slice_index, slice_index_or, IfOk, IfSome};
 ghost use Rattle.std.specs.Arc.{arc_slice_items};
+ghost use Rattle.std.specs.List.{list_any};
 ghost use Rattle.std.specs.List.Sorted.{IsNonDecreasingBy};
 ghost use Rattle.fc_numbers.specs.declared.places.TheConstants.{RAM_START, RAM_MOST};
 ghost use Rattle.fc_numbers.specs.Spans.{IsTextBelow, offset_in, size_of, text_size};
@@ -103,6 +104,14 @@ fn count_up_to(starts: &[u32], offset: u32) -> usize
     ensures within { result ≤ length starts.now }
 {
     starts.partition_point(|start| *start <= offset)
+}
+
+/// Whether the offset is one of these ascending ones.
+fn has_offset(offsets: &[u32], offset: u32) -> bool
+    requires { IsNonDecreasingBy (λ start. start) offsets.now }
+    ensures { result ≡ list_any (λ start. start == offset) offsets.now }
+{
+    offsets.binary_search(&offset).is_ok()
 }
 
 /// The g-th of 0 and the starts.
@@ -239,7 +248,7 @@ impl Table {
         ensures { result ≡ is_function self.now at }
     {
         match self.flat(at) {
-            Some(offset) => self.functions.as_slice().contains(&offset),
+            Some(offset) => has_offset(self.functions.as_slice(), offset),
             None => false,
         }
     }

@@ -7,7 +7,7 @@ use Rattle.json_fields.specs.Fields.{is_object, is_null, whole_of, text_of, arra
 use Rattle.fc_numbers.specs.declared.machine.GKind.{GKind}
 use Rattle.fc_numbers.specs.declared.machine.GKind.TheVariants.{Sv39x4, Sv48x4}
 use Rattle.elf_read.specs.Steps.{◌>>=◌, must, or_fault}
-use Rattle.guest_image.specs.Members.{member_as, member_or}
+use Rattle.json_fields.specs.Members.{member_as, member_or}
 use Rattle.guest_image.specs.declared.image.Field.TheVariants as key
 use Rattle.guest_image.specs.declared.setup.SetupFault.{SetupFault}
 use Rattle.guest_image.specs.declared.setup.SetupFault.TheVariants.{Shape}

@@ -1,4 +1,3 @@
-pub mod Members
 pub mod Plain
 pub mod Digest
 pub mod ImageFile

@@ -3,7 +3,6 @@
 use Rattle.std.specs.Prelude.{ℕ, ◌+◌, ◌*◌, ◌%◌, ◌==◌, ◌&&◌, nat_le, nat_lt, Bool, true, not, if◌then◌else◌, List, [], ◌∷◌, length, map, bytes_eq, Option, Some, None, is_some, option_map, Result, Ok, Err}
 use Rattle.std.specs.List.{list_all, filter}
 use Rattle.fc_numbers.specs.declared.places.TheConstants.{RAM_START, RAM_MOST, PAGE}
-use Rattle.fc_numbers.specs.declared.places.Span.{Span}
 use Rattle.guest_input.specs.declared.image.Start.{Start}
 use Rattle.guest_input.specs.declared.image.Function.{Function}
 use Rattle.guest_input.specs.declared.image.Image.{Image}

@@ -13,7 +13,7 @@ use Rattle.elf_read.specs.declared.laid.NamedPlace.{NamedPlace}
 use Rattle.elf_read.specs.Laid.{Layout}
 use Rattle.elf_read.specs.Starts.{kept_name}
 use Rattle.elf_read.specs.Steps.{◌>>=◌, must, or_fault}
-use Rattle.guest_image.specs.Members.{member_as, member_or}
+use Rattle.json_fields.specs.Members.{member_as, member_or}
 use Rattle.guest_image.specs.declared.image.Field.TheVariants as key
 use Rattle.guest_image.specs.declared.image.ImageFault.{ImageFault}
 use Rattle.guest_image.specs.declared.image.ImageFault.TheVariants.{Shape}

@@ -1,42 +1,43 @@
 //! The plain form of an image: one JSON object.
 
-ghost use Rattle.std.specs.Prelude.{◌≡◌, ◌≢◌, IfOk, IfErr, OnOk, Ok, Err, [], ◌∷◌, ◌++◌, if◌then◌else◌, codes, length, map, option_map, true, false};
+ghost use Rattle.std.specs.Prelude.{◌≡◌, ◌≢◌, IfOk, IfErr, OnOk, Ok, Err, [], ◌∷◌, ◌++◌, if◌then◌else◌, codes, length, map, option_map, Some, None, true, false};
 ghost use Rattle.serde_json.specs.View.{view};
 ghost use Rattle.json_fields.specs.Fields.{whole_of};
 ghost use Rattle.elf_read.specs.Starts.{kept_name};
-ghost use Rattle.guest_image.specs.Members.{member_as, member_or};
+ghost use Rattle.json_fields.specs.Members.{member_as, member_or};
 ghost use Rattle.guest_image.specs.Plain.{hex_of, name_of, segment_of, named_of, segments_of, is_filled, parts_of, names_of, is_known, has_key, laid_with, coded_of, single_of, plain_of, segment_at};
-ghost use Rattle.guest_image.specs.declared.image.ImageFault.TheVariants.{Elf};
+ghost use Rattle.json_fields.specs.declared.misfit.Misfit.TheVariants.{Form};
+ghost use Rattle.guest_image.specs.declared.image.ImageFault.TheVariants.{Elf, Shape};
 ghost use Rattle.elf_read.specs.declared.parts.ElfFault.TheVariants as elf;
 
 use crate::image::{Field, ImageFault};
 use elf_read::laid::{Laid, NamedPlace, Segment};
+use elf_read::parts::ElfFault;
 use elf_read::starts::keep_name;
 use fc_numbers::memory::NoMemory;
 use fc_numbers::places::Gpa;
 use hex::FromHexError;
 use json_fields::fields::{array, has_only, is_object, member, pair, text, whole};
+use json_fields::misfit::Misfit;
 use serde_json::Value;
 use sqlite_items::Items;
 use std::alloc::Global;
 
 /// The bytes of a text of hexadecimal digits.
 #[tactic(auto, unfolding(crate::specs::Plain::hex_of))]
-fn hex_bytes(alloc: Global, value: &Value) -> Result<Option<Items<u8>>, NoMemory>
-    ensures { IfOk result (λ bytes. bytes ≡ hex_of (view value.now)) }
+fn hex_bytes(alloc: Global, value: &Value) -> Result<Items<u8>, Misfit>
+    ensures ok { IfOk result (λ bytes. hex_of (view value.now) ≡ Some bytes) }
+    ensures err { IfErr result (λ misfit. misfit ≡ Form → hex_of (view value.now) ≡ None) }
 {
-    let Some(digits) = text(value) else {
-        return Ok(None);
-    };
+    let digits = text(value).ok_or(Misfit::Form)?;
     match hex::decode(alloc, digits) {
-        Ok(bytes) => Ok(Some(Items::from_vec(bytes))),
-        Err(FromHexError::OutOfMemory) => Err(NoMemory),
-        Err(_) => Ok(None),
+        Ok(bytes) => Ok(Items::from_vec(bytes)),
+        Err(FromHexError::OutOfMemory) => Err(Misfit::NoMemory),
+        Err(_) => Err(Misfit::Form),
     }
 }
 
 /// The number at the key.
-#[tactic(auto, unfolding(crate::specs::Members::member_as))]
 pub(crate) fn whole_member(value: &Value, key: &str) -> Option<u64>
     ensures { result ≡ member_as whole_of key.now (view value.now) }
 {
@@ -47,31 +48,24 @@ pub(crate) fn whole_member(value: &Value, key: &str) -> Option<u64>
 }
 
 /// The bytes that the hexadecimal text at the key stands for.
-#[tactic(auto, unfolding(crate::specs::Members::member_as))]
-fn hex_member(alloc: Global, value: &Value, key: &str) -> Result<Option<Items<u8>>, NoMemory>
-    ensures { IfOk result (λ bytes. bytes ≡ member_as hex_of key.now (view value.now)) }
+fn hex_member(alloc: Global, value: &Value, key: &str) -> Result<Items<u8>, Misfit>
+    ensures ok { IfOk result (λ bytes. member_as hex_of key.now (view value.now) ≡ Some bytes) }
+    ensures err { IfErr result (λ misfit. misfit ≡ Form → member_as hex_of key.now (view value.now) ≡ None) }
 {
-    match member(value, key) {
-        Some(found) => hex_bytes(alloc, found),
-        None => Ok(None),
-    }
+    let found = member(value, key).ok_or(Misfit::Form)?;
+    hex_bytes(alloc, found)
 }
 
 /// The segment that an address and a hexadecimal text are.
 #[tactic(auto, unfolding(crate::specs::Plain::segment_of))]
-fn read_segment(alloc: Global, value: &Value) -> Result<Option<Segment>, NoMemory>
-    ensures { IfOk result (λ segment. segment ≡ segment_of (view value.now)) }
+fn read_segment(alloc: Global, value: &Value) -> Result<Segment, Misfit>
+    ensures ok { IfOk result (λ segment. segment_of (view value.now) ≡ Some segment) }
+    ensures err { IfErr result (λ misfit. misfit ≡ Form → segment_of (view value.now) ≡ None) }
 {
-    let Some((place, digits)) = pair(value) else {
-        return Ok(None);
-    };
-    let Some(place) = whole(place) else {
-        return Ok(None);
-    };
-    match hex_bytes(alloc, digits)? {
-        Some(bytes) => Ok(Some(segment_at(place, bytes))),
-        None => Ok(None),
-    }
+    let (place, digits) = pair(value).ok_or(Misfit::Form)?;
+    let place = whole(place).ok_or(Misfit::Form)?;
+    let bytes = hex_bytes(alloc, digits)?;
+    Ok(segment_at(place, bytes))
 }
 
 /// Bytes at a place, with no zeros behind them.
@@ -88,51 +82,42 @@ fn segment_at(place: u64, bytes: Items<u8>) -> Segment
 
 /// A name, as it is kept.
 #[tactic(auto, unfolding(crate::specs::Plain::name_of))]
-fn name_bytes(alloc: Global, value: &Value) -> Result<Option<Items<u8>>, NoMemory>
-    ensures { IfOk result (λ name. name ≡ name_of (view value.now)) }
+fn name_bytes(alloc: Global, value: &Value) -> Result<Items<u8>, Misfit>
+    ensures ok { IfOk result (λ name. name_of (view value.now) ≡ Some name) }
+    ensures err { IfErr result (λ misfit. misfit ≡ Form → name_of (view value.now) ≡ None) }
 {
-    match text(value) {
-        Some(name) => Ok(Some(keep_name(alloc, name.as_bytes())?)),
-        None => Ok(None),
-    }
+    let name = text(value).ok_or(Misfit::Form)?;
+    Ok(keep_name(alloc, name.as_bytes())?)
 }
 
 /// The place that an address and a name are.
 #[tactic(auto, unfolding(crate::specs::Plain::named_of))]
-fn read_named(alloc: Global, value: &Value) -> Result<Option<NamedPlace>, NoMemory>
-    ensures { IfOk result (λ named. named ≡ named_of (view value.now)) }
+fn read_named(alloc: Global, value: &Value) -> Result<NamedPlace, Misfit>
+    ensures ok { IfOk result (λ named. named_of (view value.now) ≡ Some named) }
+    ensures err { IfErr result (λ misfit. misfit ≡ Form → named_of (view value.now) ≡ None) }
 {
-    let Some((place, name)) = pair(value) else {
-        return Ok(None);
-    };
-    let Some(place) = whole(place) else {
-        return Ok(None);
-    };
-    match name_bytes(alloc, name)? {
-        Some(name) => Ok(Some(NamedPlace {
-            place: Gpa(place),
-            name,
-        })),
-        None => Ok(None),
-    }
+    let (place, name) = pair(value).ok_or(Misfit::Form)?;
+    let place = whole(place).ok_or(Misfit::Form)?;
+    let name = name_bytes(alloc, name)?;
+    Ok(NamedPlace {
+        place: Gpa(place),
+        name,
+    })
 }
 
 /// The segments that an array of them is.
 #[tactic(auto, unfolding(crate::specs::Plain::segments_of))]
-fn read_segments(alloc: Global, value: &Value) -> Result<Option<Vec<Segment>>, NoMemory>
-    ensures { IfOk result (λ segments. option_map (λ all. all.items) segments ≡ segments_of (view value.now)) }
+fn read_segments(alloc: Global, value: &Value) -> Result<Vec<Segment>, Misfit>
+    ensures ok { IfOk result (λ segments. segments_of (view value.now) ≡ Some segments.items) }
+    ensures err { IfErr result (λ misfit. misfit ≡ Form → segments_of (view value.now) ≡ None) }
 {
-    let Some(items) = array(value) else {
-        return Ok(None);
-    };
+    let items = array(value).ok_or(Misfit::Form)?;
     let mut segments = Vec::new(alloc);
     for item in items {
-        let Some(segment) = read_segment(alloc, item)? else {
-            return Ok(None);
-        };
+        let segment = read_segment(alloc, item)?;
         segments.push(segment)?;
     }
-    Ok(Some(segments))
+    Ok(segments)
 }
 
 /// Puts the segment at the end, but for an empty one.
@@ -147,70 +132,74 @@ fn push_filled(parts: &mut Vec<Segment>, segment: Segment) -> Result<(), NoMemor
 
 /// The data parts but the empty ones.
 #[tactic(auto, unfolding(crate::specs::Plain::parts_of, crate::specs::Plain::segments_of))]
-fn read_parts(alloc: Global, value: &Value) -> Result<Option<Vec<Segment>>, NoMemory>
-    ensures { IfOk result (λ parts. option_map (λ all. all.items) parts ≡ parts_of (view value.now)) }
+fn read_parts(alloc: Global, value: &Value) -> Result<Vec<Segment>, Misfit>
+    ensures ok { IfOk result (λ parts. parts_of (view value.now) ≡ Some parts.items) }
+    ensures err { IfErr result (λ misfit. misfit ≡ Form → parts_of (view value.now) ≡ None) }
 {
-    let Some(items) = array(value) else {
-        return Ok(None);
-    };
+    let items = array(value).ok_or(Misfit::Form)?;
     let mut parts = Vec::new(alloc);
     for item in items {
-        let Some(segment) = read_segment(alloc, item)? else {
-            return Ok(None);
-        };
+        let segment = read_segment(alloc, item)?;
         push_filled(&mut parts, segment)?;
     }
-    Ok(Some(parts))
+    Ok(parts)
 }
 
 /// The places that have names.
 #[tactic(auto, unfolding(crate::specs::Plain::names_of))]
-fn read_names(alloc: Global, value: &Value) -> Result<Option<Items<NamedPlace>>, NoMemory>
-    ensures { IfOk result (λ named. named ≡ names_of (view value.now)) }
+fn read_names(alloc: Global, value: &Value) -> Result<Items<NamedPlace>, Misfit>
+    ensures ok { IfOk result (λ named. names_of (view value.now) ≡ Some named) }
+    ensures err { IfErr result (λ misfit. misfit ≡ Form → names_of (view value.now) ≡ None) }
 {
-    let Some(items) = array(value) else {
-        return Ok(None);
-    };
+    let items = array(value).ok_or(Misfit::Form)?;
     let mut named = Items::new(alloc);
     for item in items {
-        let Some(function) = read_named(alloc, item)? else {
-            return Ok(None);
-        };
+        let function = read_named(alloc, item)?;
         named.push(function)?;
     }
-    Ok(Some(named))
+    Ok(named)
 }
 
 /// The segments of `code`.
-#[tactic(auto, unfolding(crate::specs::Members::member_as))]
-fn code_member(alloc: Global, value: &Value) -> Result<Option<Vec<Segment>>, NoMemory>
-    ensures { IfOk result (λ code. option_map (λ all. all.items) code ≡ member_as segments_of (codes "code") (view value.now)) }
+fn code_member(alloc: Global, value: &Value) -> Result<Vec<Segment>, Misfit>
+    ensures ok { IfOk result (λ code. member_as segments_of (codes "code") (view value.now) ≡ Some code.items) }
+    ensures err { IfErr result (λ misfit. misfit ≡ Form → member_as segments_of (codes "code") (view value.now) ≡ None) }
 {
-    match member(value, "code") {
-        Some(found) => read_segments(alloc, found),
-        None => Ok(None),
-    }
+    let found = member(value, "code").ok_or(Misfit::Form)?;
+    read_segments(alloc, found)
 }
 
 /// The data parts of the file but the empty ones; none where the file does not speak of them.
-#[tactic(auto, unfolding(crate::specs::Members::member_or))]
-fn parts_member(alloc: Global, value: &Value) -> Result<Option<Vec<Segment>>, NoMemory>
-    ensures { IfOk result (λ parts. option_map (λ all. all.items) parts ≡ member_or parts_of [] (codes "data") (view value.now)) }
+fn parts_member(alloc: Global, value: &Value) -> Result<Vec<Segment>, Misfit>
+    ensures ok { IfOk result (λ parts. member_or parts_of [] (codes "data") (view value.now) ≡ Some parts.items) }
+    ensures err { IfErr result (λ misfit. misfit ≡ Form → member_or parts_of [] (codes "data") (view value.now) ≡ None) }
 {
     match member(value, "data") {
         Some(found) => read_parts(alloc, found),
-        None => Ok(Some(Vec::new(alloc))),
+        None => Ok(Vec::new(alloc)),
     }
 }
 
 /// The named places of the file; none where the file does not speak of them.
-#[tactic(auto, unfolding(crate::specs::Members::member_or))]
-fn names_member(alloc: Global, value: &Value) -> Result<Option<Items<NamedPlace>>, NoMemory>
-    ensures { IfOk result (λ named. named ≡ member_or names_of [] (codes "functions") (view value.now)) }
+fn names_member(alloc: Global, value: &Value) -> Result<Items<NamedPlace>, Misfit>
+    ensures ok { IfOk result (λ named. member_or names_of [] (codes "functions") (view value.now) ≡ Some named) }
+    ensures err { IfErr result (λ misfit. misfit ≡ Form → member_or names_of [] (codes "functions") (view value.now) ≡ None) }
 {
     match member(value, "functions") {
         Some(found) => read_names(alloc, found),
-        None => Ok(Some(Items::new(alloc))),
+        None => Ok(Items::new(alloc)),
+    }
+}
+
+/// What the value at a key of the image gives, or the fault of that key.
+fn at_field<T>(field: Field, read: Result<T, Misfit>) -> Result<T, ImageFault>
+    ensures ok { IfOk result (λ value. read ≡ Ok value) }
+    ensures err { IfErr result (λ fault. fault ≢ Elf elf.NoMemory → (read ≡ Err Form) × (fault ≡ Shape field)) }
+{
+    match read {
+        Ok(value) => Ok(value),
+        Err(Misfit::Form) => Err(ImageFault::Shape(field)),
+        Err(Misfit::NoMemory) => Err(ImageFault::Elf(ElfFault::NoMemory)),
     }
 }
 
@@ -244,12 +233,8 @@ fn read_with(
     ensures ok { IfOk result (λ laid. laid_with code.items entry (view value.now) ≡ Ok laid) }
     ensures err { IfErr result (λ fault. fault ≢ Elf elf.NoMemory → laid_with code.items entry (view value.now) ≡ Err fault) }
 {
-    let Some(parts) = parts_member(alloc, value)? else {
-        return Err(ImageFault::Shape(Field::Data));
-    };
-    let Some(named) = names_member(alloc, value)? else {
-        return Err(ImageFault::Shape(Field::Functions));
-    };
+    let parts = at_field(Field::Data, parts_member(alloc, value))?;
+    let named = at_field(Field::Functions, names_member(alloc, value))?;
     if !is_known(value) {
         return Err(ImageFault::Shape(Field::Other));
     }
@@ -268,15 +253,11 @@ fn read_coded(alloc: Global, value: &Value) -> Result<Laid, ImageFault>
     ensures ok { IfOk result (λ laid. coded_of (view value.now) ≡ Ok laid) }
     ensures err { IfErr result (λ fault. fault ≢ Elf elf.NoMemory → coded_of (view value.now) ≡ Err fault) }
 {
-    let Some(code) = code_member(alloc, value)? else {
-        return Err(ImageFault::Shape(Field::Code));
-    };
+    let code = at_field(Field::Code, code_member(alloc, value))?;
     if has_key(value, "base") {
         return Err(ImageFault::Shape(Field::Base));
     }
-    let Some(entry) = whole_member(value, "entry") else {
-        return Err(ImageFault::Shape(Field::Entry));
-    };
+    let entry = whole_member(value, "entry").ok_or(ImageFault::Shape(Field::Entry))?;
     if has_key(value, "text") {
         return Err(ImageFault::Shape(Field::Text));
     }
@@ -301,15 +282,9 @@ fn read_single(alloc: Global, value: &Value) -> Result<Laid, ImageFault>
     if !has_key(value, "base") && !has_key(value, "text") {
         return Err(ImageFault::Shape(Field::Code));
     }
-    let Some(base) = whole_member(value, "base") else {
-        return Err(ImageFault::Shape(Field::Base));
-    };
-    let Some(entry) = whole_member(value, "entry") else {
-        return Err(ImageFault::Shape(Field::Entry));
-    };
-    let Some(bytes) = hex_member(alloc, value, "text")? else {
-        return Err(ImageFault::Shape(Field::Text));
-    };
+    let base = whole_member(value, "base").ok_or(ImageFault::Shape(Field::Base))?;
+    let entry = whole_member(value, "entry").ok_or(ImageFault::Shape(Field::Entry))?;
+    let bytes = at_field(Field::Text, hex_member(alloc, value, "text"))?;
     let code = one(alloc, segment_at(base, bytes))?;
     read_with(alloc, code, entry, value)
 }

@@ -1,14 +1,15 @@
 //! From the bytes of a file to the setup of a run.
 
-ghost use Rattle.std.specs.Prelude.{◌≡◌, ◌≢◌, [], codes, map, None, IfOk, IfErr, Ok, Err};
+ghost use Rattle.std.specs.Prelude.{◌≡◌, ◌≢◌, [], codes, map, Some, None, IfOk, IfErr, Ok, Err};
 ghost use Rattle.serde_json.specs.View.{view};
 ghost use Rattle.json_fields.specs.Fields.{whole_of};
-ghost use Rattle.guest_image.specs.Members.{member_as, member_or};
+ghost use Rattle.json_fields.specs.Members.{member_as, member_or};
 ghost use Rattle.guest_image.specs.Asked.{hook_of, start_of, what_of, event_of, events_of, is_setup_known, asked_of, app_name_of, kind_named, kind_of};
 ghost use Rattle.guest_image.specs.Limits.{setup_of};
 ghost use Rattle.guest_input.specs.Accepted.{IsSetupFor};
 ghost use Rattle.guest_input.specs.Text.{AreRanges, bytes_of, spans_of};
 ghost use Rattle.fc_numbers.specs.declared.machine.GKind.TheVariants.{Sv39x4};
+ghost use Rattle.json_fields.specs.declared.misfit.Misfit.TheVariants.{Form};
 ghost use Rattle.guest_image.specs.declared.setup.SetupFault.TheVariants as setup;
 
 use crate::image::Field;
@@ -21,6 +22,7 @@ use fc_numbers::name::Name;
 use guest_input::image::Image;
 use guest_input::setup::Setup;
 use json_fields::fields::{array, has_only, is_null, is_object, member, text, triple, whole};
+use json_fields::misfit::Misfit;
 use json_fields::parse::{Unread, parse};
 use serde_json::Value;
 use sqlite_items::Items;
@@ -55,7 +57,6 @@ pub(crate) struct Asked {
 }
 
 /// The number at the key, or 0 where there is none.
-#[tactic(auto, unfolding(crate::specs::Members::member_or))]
 fn whole_or_zero(value: &Value, key: &str) -> Option<u64>
     ensures { result ≡ member_or whole_of 0 key.now (view value.now) }
 {
@@ -67,25 +68,24 @@ fn whole_or_zero(value: &Value, key: &str) -> Option<u64>
 
 /// The name of the hook function: null or a text.
 #[tactic(auto, unfolding(crate::specs::Asked::hook_of))]
-fn read_hook(alloc: Global, value: &Value) -> Result<Option<Option<Items<u8>>>, NoMemory>
-    ensures { IfOk result (λ hook. hook ≡ hook_of (view value.now)) }
+fn read_hook(alloc: Global, value: &Value) -> Result<Option<Items<u8>>, Misfit>
+    ensures ok { IfOk result (λ hook. hook_of (view value.now) ≡ Some hook) }
+    ensures err { IfErr result (λ misfit. misfit ≡ Form → hook_of (view value.now) ≡ None) }
 {
     if is_null(value) {
-        return Ok(Some(None));
+        return Ok(None);
     }
-    match text(value) {
-        Some(name) => Ok(Some(Some(Items::from_slice(alloc, name.as_bytes())?))),
-        None => Ok(None),
-    }
+    let name = text(value).ok_or(Misfit::Form)?;
+    Ok(Some(Items::from_slice(alloc, name.as_bytes())?))
 }
 
-#[tactic(auto, unfolding(crate::specs::Members::member_or))]
-fn hook_member(alloc: Global, value: &Value) -> Result<Option<Option<Items<u8>>>, NoMemory>
-    ensures { IfOk result (λ hook. hook ≡ member_or hook_of None (codes "hook") (view value.now)) }
+fn hook_member(alloc: Global, value: &Value) -> Result<Option<Items<u8>>, Misfit>
+    ensures ok { IfOk result (λ hook. member_or hook_of None (codes "hook") (view value.now) ≡ Some hook) }
+    ensures err { IfErr result (λ misfit. misfit ≡ Form → member_or hook_of None (codes "hook") (view value.now) ≡ None) }
 {
     match member(value, "hook") {
         Some(found) => read_hook(alloc, found),
-        None => Ok(Some(None)),
+        None => Ok(None),
     }
 }
 
@@ -114,7 +114,6 @@ fn read_start(value: &Value) -> Option<Option<Name>>
     }
 }
 
-#[tactic(auto, unfolding(crate::specs::Members::member_or))]
 fn start_member(value: &Value) -> Option<Option<Name>>
     ensures { result ≡ member_or start_of None (codes "start") (view value.now) }
 {
@@ -159,29 +158,26 @@ fn read_event(value: &Value) -> Option<AskedEvent>
 
 /// The events of the file.
 #[tactic(auto, unfolding(crate::specs::Asked::events_of))]
-fn read_events(alloc: Global, value: &Value) -> Result<Option<Items<AskedEvent>>, NoMemory>
-    ensures { IfOk result (λ events. events ≡ events_of (view value.now)) }
+fn read_events(alloc: Global, value: &Value) -> Result<Items<AskedEvent>, Misfit>
+    ensures ok { IfOk result (λ events. events_of (view value.now) ≡ Some events) }
+    ensures err { IfErr result (λ misfit. misfit ≡ Form → events_of (view value.now) ≡ None) }
 {
-    let Some(items) = array(value) else {
-        return Ok(None);
-    };
+    let items = array(value).ok_or(Misfit::Form)?;
     let mut events = Items::new(alloc);
     for item in items {
-        let Some(event) = read_event(item) else {
-            return Ok(None);
-        };
+        let event = read_event(item).ok_or(Misfit::Form)?;
         events.push(event)?;
     }
-    Ok(Some(events))
+    Ok(events)
 }
 
-#[tactic(auto, unfolding(crate::specs::Members::member_or))]
-fn events_member(alloc: Global, value: &Value) -> Result<Option<Items<AskedEvent>>, NoMemory>
-    ensures { IfOk result (λ events. events ≡ member_or events_of [] (codes "events") (view value.now)) }
+fn events_member(alloc: Global, value: &Value) -> Result<Items<AskedEvent>, Misfit>
+    ensures ok { IfOk result (λ events. member_or events_of [] (codes "events") (view value.now) ≡ Some events) }
+    ensures err { IfErr result (λ misfit. misfit ≡ Form → member_or events_of [] (codes "events") (view value.now) ≡ None) }
 {
     match member(value, "events") {
         Some(found) => read_events(alloc, found),
-        None => Ok(Some(Items::new(alloc))),
+        None => Ok(Items::new(alloc)),
     }
 }
 
@@ -208,13 +204,24 @@ fn read_kind(value: &Value) -> Option<GKind>
     }
 }
 
-#[tactic(auto, unfolding(crate::specs::Members::member_or))]
 fn kind_member(value: &Value) -> Option<GKind>
     ensures { result ≡ member_or kind_of Sv39x4 (codes "gstage") (view value.now) }
 {
     match member(value, "gstage") {
         Some(found) => read_kind(found),
         None => Some(GKind::Sv39x4),
+    }
+}
+
+/// What the value at a key of the setup gives, or the fault of that key.
+fn at_field<T>(field: Field, read: Result<T, Misfit>) -> Result<T, SetupFault>
+    ensures ok { IfOk result (λ value. read ≡ Ok value) }
+    ensures err { IfErr result (λ fault. fault ≢ setup.NoMemory → (read ≡ Err Form) × (fault ≡ setup.Shape field)) }
+{
+    match read {
+        Ok(value) => Ok(value),
+        Err(Misfit::Form) => Err(SetupFault::Shape(field)),
+        Err(Misfit::NoMemory) => Err(SetupFault::NoMemory),
     }
 }
 
@@ -240,30 +247,14 @@ pub(crate) fn read_asked(alloc: Global, value: &Value) -> Result<Asked, SetupFau
     if !is_object(value) {
         return Err(SetupFault::Shape(Field::Other));
     }
-    let Some(vcpus) = whole_member(value, "vcpus") else {
-        return Err(SetupFault::Shape(Field::Vcpus));
-    };
-    let Some(ram) = whole_member(value, "ram") else {
-        return Err(SetupFault::Shape(Field::Ram));
-    };
-    let Some(steps) = whole_member(value, "steps") else {
-        return Err(SetupFault::Shape(Field::Steps));
-    };
-    let Some(hook) = hook_member(alloc, value)? else {
-        return Err(SetupFault::Shape(Field::Hook));
-    };
-    let Some(name_at) = whole_or_zero(value, "name_at") else {
-        return Err(SetupFault::Shape(Field::NameAt));
-    };
-    let Some(start) = start_member(value) else {
-        return Err(SetupFault::Shape(Field::Start));
-    };
-    let Some(events) = events_member(alloc, value)? else {
-        return Err(SetupFault::Shape(Field::Events));
-    };
-    let Some(gstage) = kind_member(value) else {
-        return Err(SetupFault::Shape(Field::Gstage));
-    };
+    let vcpus = whole_member(value, "vcpus").ok_or(SetupFault::Shape(Field::Vcpus))?;
+    let ram = whole_member(value, "ram").ok_or(SetupFault::Shape(Field::Ram))?;
+    let steps = whole_member(value, "steps").ok_or(SetupFault::Shape(Field::Steps))?;
+    let hook = at_field(Field::Hook, hook_member(alloc, value))?;
+    let name_at = whole_or_zero(value, "name_at").ok_or(SetupFault::Shape(Field::NameAt))?;
+    let start = start_member(value).ok_or(SetupFault::Shape(Field::Start))?;
+    let events = at_field(Field::Events, events_member(alloc, value))?;
+    let gstage = kind_member(value).ok_or(SetupFault::Shape(Field::Gstage))?;
     if !is_known(value) {
         return Err(SetupFault::Shape(Field::Other));
     }

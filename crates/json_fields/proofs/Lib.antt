@@ -1,2 +1,3 @@
 pub mod Lists
 pub mod Utf8
+pub mod EachOf

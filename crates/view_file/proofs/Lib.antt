@@ -1,7 +1,6 @@
 pub mod Apart
 pub mod Bases
 pub mod Chosen
-pub mod EachOf
 pub mod Functions
 pub mod Leasts
 pub mod Once

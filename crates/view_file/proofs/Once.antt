@@ -1,5 +1,5 @@
 -- What bytes give as views for an image is one: the views, or the fault.
-use Rattle.std.proofs.Common.{◌≡◌, ◌≢◌, ℕ, zero, suc, ◌+◌, ◌<◌, true, false, Bool, arith, refl, ◌∙◌, sym, ap, subst, Option, Ok, Err, List, [], ◌∷◌, length, map, ◌⊎◌, inl, inr}
+use Rattle.std.proofs.Common.{◌≡◌, ◌≢◌, ℕ, zero, suc, ◌<◌, true, false, Bool, arith, refl, ◌∙◌, sym, ap, subst, Ok, Err, List, [], ◌∷◌, length, map, ◌⊎◌, inl, inr}
 use Rattle.std.specs.Prelude.{slice_index_or, ◌&&◌, ◌||◌, Result}
 use Rattle.std.specs.List.{AllZip, AllByRecursion, Contains, list_all}
 use Rattle.std.specs.List.Sorted.{IsPermutation, IsStrictlySortedBy}
@@ -9,7 +9,6 @@ use Rattle.std.specs.declared.cmp.Ordering.TheVariants.{Less, Equal, Greater}
 use Rattle.std.specs.Cmp.{IsTotalOrder}
 use Rattle.std.specs.Cmp.Lexicographic.{slice_cmp, nat_list_cmp_total}
 use Rattle.std.proofs.lemmas.Bool.Decides.{nat_tests}
-use Rattle.std.proofs.lemmas.Cmp.{nat_cmp_total}
 use Rattle.std.proofs.lemmas.List.Sorted.{Contains-permutation, IsPermutation-sym}
 use Rattle.guest_input.specs.declared.image.Image.{Image}
 use Rattle.guest_input.specs.declared.image.Start.{Start}

@@ -1,14 +1,14 @@
 -- The text of views reads back as these views.
-use Rattle.std.proofs.Common.{◌≡◌, ℕ, ◌≤◌, true, List, [], ◌∷◌, map, length, refl, ap, sym, ◌∙◌, arith, Some, Ok}
-use Rattle.std.specs.Prelude.{max, if◌then◌else◌, None}
+use Rattle.std.proofs.Common.{◌≡◌, ℕ, ◌≤◌, true, List, [], ◌∷◌, map, length, refl, ap, ◌∙◌, arith, Some, Ok}
+use Rattle.std.specs.Prelude.{if◌then◌else◌, None}
 use Rattle.std.specs.List.{list_all, AllZip}
-use Rattle.std.specs.Str.{IsUtf8, is_utf8}
+use Rattle.std.specs.Str.{IsUtf8}
 use Rattle.std.proofs.lemmas.Str.{is_utf8-from_IsUtf8}
 use Rattle.std.proofs.lemmas.List.Sorted.{IsPermutation-refl}
 use Rattle.std.specs.Result.{result_ok}
 use Rattle.hex.specs.Hex.{IsBytes, encode_lower}
 use Rattle.hex.proofs.HexLemmas.{decode_sized-encode_lower}
-use Rattle.serde_json.specs.Data.{Data, depth, items_depth, string}
+use Rattle.serde_json.specs.Data.{depth, items_depth, string}
 use Rattle.serde_json.specs.Read.{read, max_depth}
 use Rattle.serde_json.specs.View.{items_of}
 use Rattle.fc_numbers.specs.Names.{is_app_name}
@@ -22,7 +22,7 @@ use Rattle.view_file.specs.declared.written.WrittenApp.{WrittenApp}
 use Rattle.view_file.specs.Fits.{IsAppOf, AreAppsOf, IsViewsOf, Parses}
 use Rattle.view_file.specs.Lawful.{AreListedBy, IsViews, is_start}
 use Rattle.view_file.specs.Text.{app_data, apps_data, start_data, starts_data, views_data}
-use Rattle.view_file.specs.Written.{app_of, apps_of, are_names, digest_of, names_of, shaped_of, start_of, starts_of, writing_of, written_of}
+use Rattle.view_file.specs.Written.{app_of, apps_of, are_names, digest_of, names_of, shaped_of, start_of, starts_of, written_of}
 use Rattle.view_file.proofs.Apart.{names_well}
 use Rattle.view_file.proofs.Chosen.{chosen_few}
 use Rattle.view_file.proofs.Functions.{both-left, both-right}

@@ -8,11 +8,11 @@ use Rattle.std.specs.Set.{distinct_count}
 use Rattle.std.specs.Str.{bytes_eq}
 use Rattle.hex.specs.Hex.{decode_sized}
 use Rattle.serde_json.specs.Data.{Data}
-use Rattle.serde_json.specs.Find.{get}
 use Rattle.fc_numbers.specs.Names.{is_app_name}
 use Rattle.fc_numbers.specs.declared.spans.TheConstants.{RANGES_MOST}
 use Rattle.guest_input.specs.declared.image.Start.{Start}
 use Rattle.json_fields.specs.Fields.{json_of, has_only_keys, whole_of, text_of, array_of, pair_of, each_of}
+use Rattle.json_fields.specs.Members.{member_as}
 use Rattle.view_file.specs.declared.views.TheConstants.{APPS_MOST}
 use Rattle.view_file.specs.declared.fault.ViewFault.{ViewFault}
 use Rattle.view_file.specs.declared.fault.ViewFault.TheVariants.{NotJson, Shape, OtherText, UnknownFunction, BadName, TooManyApps, NoMemory}
@@ -20,10 +20,6 @@ use Rattle.view_file.specs.declared.written.Version.{Version}
 use Rattle.view_file.specs.declared.written.Version.TheVariants.{One, Two}
 use Rattle.view_file.specs.declared.written.Written.{Written}
 use Rattle.view_file.specs.declared.written.WrittenApp.{WrittenApp}
-
--- the member at a key, in the form that f reads
-abbrev pub member_as : {A : Type 0} → (Data → Option A) → List ℕ → Data → Option A
-member_as f key d = option_and_then f (get key d)
 
 -- a step that is taken where the step before gave something
 infixl 10 ◌>>=◌

@@ -3,16 +3,18 @@
 ghost use Rattle.std.specs.Prelude.{◌≡◌, ◌≢◌, ◌↔◌, IsTrue, IfOk, IfErr, Ok, Err, Some, None, codes, map, option_map, length};
 ghost use Rattle.serde_json.specs.View.{view};
 ghost use Rattle.json_fields.specs.Fields.{whole_of, text_of, json_of, each_of};
-ghost use Rattle.view_file.specs.Written.{member_as, start_in, start_of, starts_of, digest_of, app_of, apps_of, version_of, written_of, shaped_of, Fails};
+ghost use Rattle.json_fields.specs.Members.{member_as};
+ghost use Rattle.json_fields.specs.declared.misfit.Misfit.TheVariants.{Form};
+ghost use Rattle.view_file.specs.Written.{start_in, start_of, starts_of, digest_of, app_of, apps_of, version_of, written_of, shaped_of, Fails};
 ghost use Rattle.view_file.specs.declared.fault.ViewFault.TheVariants.{NotJson, Shape};
 ghost use Rattle.view_file.specs.declared.written.Version.TheVariants.{One, Two};
 
 use crate::fault::ViewFault;
-use fc_numbers::memory::NoMemory;
 use fc_numbers::spans::RANGES_MOST;
 use guest_input::image::Start;
 use hex::FromHex;
 use json_fields::fields::{array, has_only, member, pair, text, whole};
+use json_fields::misfit::Misfit;
 use json_fields::parse::{Unread, parse};
 use serde_json::Value;
 use sqlite_items::Items;
@@ -81,31 +83,25 @@ fn start(version: Version, value: &Value) -> Option<Start>
     }
 }
 
-fn each_start(
-    alloc: Global,
-    version: Version,
-    items: &[Value],
-) -> Result<Option<Items<Start>>, NoMemory>
-    ensures { IfOk result (λ found. found ≡ each_of (start_of version) (map view items.now)) }
+fn each_start(alloc: Global, version: Version, items: &[Value]) -> Result<Items<Start>, Misfit>
+    ensures ok { IfOk result (λ found. each_of (start_of version) (map view items.now) ≡ Some found) }
+    ensures err { IfErr result (λ misfit. misfit ≡ Form → each_of (start_of version) (map view items.now) ≡ None) }
 {
     let mut found = Items::new(alloc);
     for item in items {
-        match start(version, item) {
-            Some(at) => found.push(at)?,
-            None => return Ok(None),
-        }
+        let at = start(version, item).ok_or(Misfit::Form)?;
+        found.push(at)?;
     }
-    Ok(Some(found))
+    Ok(found)
 }
 
 #[tactic(auto, unfolding(crate::specs::Written::starts_of))]
-fn starts(alloc: Global, version: Version, value: &Value) -> Result<Option<Items<Start>>, NoMemory>
-    ensures { IfOk result (λ found. found ≡ starts_of version (view value.now)) }
+fn starts(alloc: Global, version: Version, value: &Value) -> Result<Items<Start>, Misfit>
+    ensures ok { IfOk result (λ found. starts_of version (view value.now) ≡ Some found) }
+    ensures err { IfErr result (λ misfit. misfit ≡ Form → starts_of version (view value.now) ≡ None) }
 {
-    match array(value) {
-        Some(items) => each_start(alloc, version, items),
-        None => Ok(None),
-    }
+    let items = array(value).ok_or(Misfit::Form)?;
+    each_start(alloc, version, items)
 }
 
 #[tactic(auto, unfolding(crate::specs::Written::digest_of))]
@@ -123,91 +119,70 @@ fn starts_at(
     version: Version,
     value: &Value,
     key: &str,
-) -> Result<Option<Items<Start>>, NoMemory>
-    ensures { IfOk result (λ found. found ≡ member_as (starts_of version) key.now (view value.now)) }
+) -> Result<Items<Start>, Misfit>
+    ensures ok { IfOk result (λ found. member_as (starts_of version) key.now (view value.now) ≡ Some found) }
+    ensures err { IfErr result (λ misfit. misfit ≡ Form → member_as (starts_of version) key.now (view value.now) ≡ None) }
 {
-    match member(value, key) {
-        Some(found) => starts(alloc, version, found),
-        None => Ok(None),
-    }
+    let found = member(value, key).ok_or(Misfit::Form)?;
+    starts(alloc, version, found)
 }
 
-fn bytes_of(alloc: Global, value: &Value) -> Result<Option<Items<u8>>, NoMemory>
-    ensures { IfOk result (λ found. found ≡ text_of (view value.now)) }
+fn bytes_of(alloc: Global, value: &Value) -> Result<Items<u8>, Misfit>
+    ensures ok { IfOk result (λ found. text_of (view value.now) ≡ Some found) }
+    ensures err { IfErr result (λ misfit. misfit ≡ Form → text_of (view value.now) ≡ None) }
 {
-    match text(value) {
-        Some(text) => Ok(Some(Items::from_slice(alloc, text.as_bytes())?)),
-        None => Ok(None),
-    }
+    let text = text(value).ok_or(Misfit::Form)?;
+    Ok(Items::from_slice(alloc, text.as_bytes())?)
 }
 
-fn name_at(alloc: Global, value: &Value) -> Result<Option<Items<u8>>, NoMemory>
-    ensures { IfOk result (λ found. found ≡ member_as text_of (codes "name") (view value.now)) }
+fn name_at(alloc: Global, value: &Value) -> Result<Items<u8>, Misfit>
+    ensures ok { IfOk result (λ found. member_as text_of (codes "name") (view value.now) ≡ Some found) }
+    ensures err { IfErr result (λ misfit. misfit ≡ Form → member_as text_of (codes "name") (view value.now) ≡ None) }
 {
-    match member(value, "name") {
-        Some(found) => bytes_of(alloc, found),
-        None => Ok(None),
-    }
+    let found = member(value, "name").ok_or(Misfit::Form)?;
+    bytes_of(alloc, found)
 }
 
 #[tactic(auto, unfolding(crate::specs::Written::app_of))]
-fn app(alloc: Global, version: Version, value: &Value) -> Result<Option<WrittenApp>, NoMemory>
-    ensures { IfOk result (λ found. found ≡ app_of version (view value.now)) }
+fn app(alloc: Global, version: Version, value: &Value) -> Result<WrittenApp, Misfit>
+    ensures ok { IfOk result (λ found. app_of version (view value.now) ≡ Some found) }
+    ensures err { IfErr result (λ misfit. misfit ≡ Form → app_of version (view value.now) ≡ None) }
 {
     if !has_only(value, &["functions", "name"]) {
-        return Ok(None);
+        return Err(Misfit::Form);
     }
-    let Some(name) = name_at(alloc, value)? else {
-        return Ok(None);
-    };
-    let Some(functions) = starts_at(alloc, version, value, "functions")? else {
-        return Ok(None);
-    };
-    Ok(Some(WrittenApp { name, functions }))
+    let name = name_at(alloc, value)?;
+    let functions = starts_at(alloc, version, value, "functions")?;
+    Ok(WrittenApp { name, functions })
 }
 
-fn each_app(
-    alloc: Global,
-    version: Version,
-    items: &[Value],
-) -> Result<Option<Items<WrittenApp>>, NoMemory>
-    ensures { IfOk result (λ found. found ≡ each_of (app_of version) (map view items.now)) }
+fn each_app(alloc: Global, version: Version, items: &[Value]) -> Result<Items<WrittenApp>, Misfit>
+    ensures ok { IfOk result (λ found. each_of (app_of version) (map view items.now) ≡ Some found) }
+    ensures err { IfErr result (λ misfit. misfit ≡ Form → each_of (app_of version) (map view items.now) ≡ None) }
 {
     let mut found = Items::new(alloc);
     for item in items {
-        match app(alloc, version, item)? {
-            Some(app) => found.push(app)?,
-            None => return Ok(None),
-        }
+        let app = app(alloc, version, item)?;
+        found.push(app)?;
     }
-    Ok(Some(found))
+    Ok(found)
 }
 
 #[tactic(auto, unfolding(crate::specs::Written::apps_of))]
-fn apps(
-    alloc: Global,
-    version: Version,
-    value: &Value,
-) -> Result<Option<Items<WrittenApp>>, NoMemory>
-    ensures { IfOk result (λ found. found ≡ apps_of version (view value.now)) }
+fn apps(alloc: Global, version: Version, value: &Value) -> Result<Items<WrittenApp>, Misfit>
+    ensures ok { IfOk result (λ found. apps_of version (view value.now) ≡ Some found) }
+    ensures err { IfErr result (λ misfit. misfit ≡ Form → apps_of version (view value.now) ≡ None) }
 {
-    match array(value) {
-        Some(items) => each_app(alloc, version, items),
-        None => Ok(None),
-    }
+    let items = array(value).ok_or(Misfit::Form)?;
+    each_app(alloc, version, items)
 }
 
-fn apps_at(
-    alloc: Global,
-    version: Version,
-    value: &Value,
-) -> Result<Option<Items<WrittenApp>>, NoMemory>
-    ensures { IfOk result (λ found. found ≡ member_as (apps_of version) (codes "apps") (view value.now)) }
+fn apps_at(alloc: Global, version: Version, value: &Value) -> Result<Items<WrittenApp>, Misfit>
+    ensures ok { IfOk result (λ found. member_as (apps_of version) (codes "apps") (view value.now) ≡ Some found) }
+    ensures err { IfErr result (λ misfit. misfit ≡ Form → member_as (apps_of version) (codes "apps") (view value.now) ≡ None) }
 {
-    match member(value, "apps") {
-        Some(found) => apps(alloc, version, found),
-        None => Ok(None),
-    }
+    let found = member(value, "apps").ok_or(Misfit::Form)?;
+    apps(alloc, version, found)
 }
 
 fn digest_at(value: &Value) -> Option<[u8; 32]>
@@ -238,27 +213,20 @@ fn version_at(value: &Value) -> Option<Version>
     }
 }
 
-/// What a value writes, or None where it is no views file of version 1 or 2.
+/// What a value writes, where it is a views file of version 1 or 2.
 #[tactic(auto, unfolding(crate::specs::Written::written_of))]
-fn from_value(alloc: Global, value: &Value) -> Result<Option<Written>, NoMemory>
-    ensures { IfOk result (λ found. found ≡ written_of (view value.now)) }
+fn from_value(alloc: Global, value: &Value) -> Result<Written, Misfit>
+    ensures ok { IfOk result (λ found. written_of (view value.now) ≡ Some found) }
+    ensures err { IfErr result (λ misfit. misfit ≡ Form → written_of (view value.now) ≡ None) }
 {
     if !has_only(value, &["apps", "shared", "text", "version"]) {
-        return Ok(None);
+        return Err(Misfit::Form);
     }
-    let Some(version) = version_at(value) else {
-        return Ok(None);
-    };
-    let Some(text) = digest_at(value) else {
-        return Ok(None);
-    };
-    let Some(shared) = starts_at(alloc, version, value, "shared")? else {
-        return Ok(None);
-    };
-    let Some(apps) = apps_at(alloc, version, value)? else {
-        return Ok(None);
-    };
-    Ok(Some(Written { text, shared, apps }))
+    let version = version_at(value).ok_or(Misfit::Form)?;
+    let text = digest_at(value).ok_or(Misfit::Form)?;
+    let shared = starts_at(alloc, version, value, "shared")?;
+    let apps = apps_at(alloc, version, value)?;
+    Ok(Written { text, shared, apps })
 }
 
 /// What the bytes write.
@@ -272,8 +240,9 @@ pub fn shaped(alloc: Global, bytes: &[u8]) -> Result<Written, ViewFault>
         Err(Unread::NotJson) => return Err(ViewFault::NotJson),
         Err(Unread::NoMemory) => return Err(ViewFault::NoMemory),
     };
-    match from_value(alloc, &value)? {
-        Some(written) => Ok(written),
-        None => Err(ViewFault::Shape),
+    match from_value(alloc, &value) {
+        Ok(written) => Ok(written),
+        Err(Misfit::Form) => Err(ViewFault::Shape),
+        Err(Misfit::NoMemory) => Err(ViewFault::NoMemory),
     }
 }

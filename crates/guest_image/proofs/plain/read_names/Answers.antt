@@ -1,21 +1,19 @@
-use Rattle.std.proofs.Common.{◌≡◌, get_or, Some, None, option_and_then, ap, sym, ◌∙◌}
+use Rattle.std.proofs.Common.{Some, option_and_then, ap, sym, ◌∙◌}
+use Rattle.std.proofs.lemmas.Result.{err_from_is_err_and}
 use Rattle.json_fields.specs.Fields.{each_of}
-use Rattle.json_fields.proofs.Lists.{each_of-missing, each_of-more}
-use Rattle.serde_json.specs.View.{view}
+use Rattle.json_fields.proofs.EachOf.{each_of-next, each_of-stop}
 use Rattle.guest_image.specs.Plain.{named_of, names_of}
 use Rattle.guest_image.proofs.plain.read_names.Goals as goal
 
-pub returns-in_default-2 : goal.returns-in_default-2
+pub returns-in_err-function-clause-err : goal.returns-in_err-function-clause-err
 unfolding names_of
-returns-in_default-2 c =
-    let here : named_of (view (get_or c.in-Some.items.now c.loop-item.item-index c.item-item.result)) ≡ None =
-    ap (λ v. named_of (view v)) (sym c.item-item.is) ∙ sym c.in_ok-function.ensures ∙ c.in_default-2.is in
-    let missing = each_of-missing view named_of c.in-Some.items.now c.loop-item.item-index c.item-item.result c.loop-item-test.true here in
-    sym (ap (option_and_then (each_of named_of)) (sym c.in-Some.ensures) ∙ missing)
+returns-in_err-function-clause-err c =
+    let p = err_from_is_err_and c.from_residual-in_err-function.result c.from_residual-in_err-function.ensures.1 in
+    rw (p.1, p.2) (λ misfit.
+    let missing = each_of-stop named_of c.in_ok-items.items.now c.loop-item.item-index c.item-item.result c.loop-item-test.true c.item-item.is (c.in_err-function.ensures.err misfit) in
+    ap (option_and_then (each_of named_of)) (sym (rw c.in_ok-items.ensures.ok_part at c.array.ensures)) ∙ missing)
 
 pub loop-item-preserved : goal.loop-item-preserved
 loop-item-preserved c =
-    let here : named_of (view (get_or c.in-Some.items.now c.loop-item.item-index c.item-item.result)) ≡ Some c.in-Some-2.function =
-    ap (λ v. named_of (view v)) (sym c.item-item.is) ∙ sym c.in_ok-function.ensures ∙ c.in-Some-2.is in
-    each_of-more view named_of c.in-Some.items.now c.loop-item.item-index c.item-item.result c.loop-item.named c.in-Some-2.function c.loop-item-test.true c.loop-item.invariant here
+    each_of-next named_of c.in_ok-items.items.now c.loop-item.item-index c.item-item.result c.loop-item.named c.in_ok-function.function c.loop-item-test.true c.item-item.is c.loop-item.invariant c.in_ok-function.ensures.ok
     ∙ ap Some (sym c.in_ok-push.ensures.ok)

@@ -5,7 +5,7 @@ use Rattle.serde_json.specs.Data.{Data}
 use Rattle.serde_json.specs.Find.{get}
 
 -- the member that must be there, in the form that f reads
-unfoldable pub member_as : {A : Type 0} → (Data → Option A) → List ℕ → Data → Option A
+abbrev pub member_as : {A : Type 0} → (Data → Option A) → List ℕ → Data → Option A
 member_as f key d = option_and_then f (get key d)
 
 abbrev pub default_or : {A : Type 0} → (Data → Option A) → A → Option Data → Option A
@@ -13,5 +13,5 @@ default_or f default None = Some default
 default_or f default (Some d) = f d
 
 -- the member in the form that f reads, or the default where there is none
-unfoldable pub member_or : {A : Type 0} → (Data → Option A) → A → List ℕ → Data → Option A
+abbrev pub member_or : {A : Type 0} → (Data → Option A) → A → List ℕ → Data → Option A
 member_or f default key d = default_or f default (get key d)
