@@ -165,7 +165,7 @@ module _ (c : Config) (ok : IsConfig c) (w : World) (k : IsKept c w) (i : ℕ) (
       (λ x. after_verdict (k.board x) (mine x) (verdict_of (k.board x).rules (k.board x).state (mine x) (seated (view_named (k.profile x) (name_of (k.board x).state (mine x))) (lane_of w i).windows))) ∙ sym one.0 in
       let lane : after_turn w.board.state i (lane_of w i) (windows_of w i (lane_of w i)) (verdict_in w i (windows_of w i (lane_of w i))) ≡ (turns_of c.views 1 (board_of c w.board.schedule) (lane_of w i)).lane =
       (λ x. after_turn (k.board x).state (mine x) (lane_of w i) (seated (view_named (k.profile x) (name_of (k.board x).state (mine x))) (lane_of w i).windows)
-          (verdict_of (k.board x).rules (k.board x).state (mine x) (seated (view_named (k.profile x) (name_of (k.board x).state (mine x))) (lane_of w i).windows))) ∙ sym one.1 in
+      (verdict_of (k.board x).rules (k.board x).state (mine x) (seated (view_named (k.profile x) (name_of (k.board x).state (mine x))) (lane_of w i).windows))) ∙ sym one.1 in
       let to : IsRunTo c (logs_of w.paged_views) 0 i (w.board.schedule ++ replicate run.more i) (turns_of c.views 1 (board_of c w.board.schedule) (lane_of w i)).board (turns_of c.views 1 (board_of c w.board.schedule) (lane_of w i)).lane =
       subst (λ n. IsRunTo c (logs_of w.paged_views) 0 n (w.board.schedule ++ replicate run.more n) (turns_of c.views 1 (board_of c w.board.schedule) (lane_of w i)).board (turns_of c.views 1 (board_of c w.board.schedule) (lane_of w i)).lane) own run.to in
       steps-kept (after_turn w.board.state i (lane_of w i) (windows_of w i (lane_of w i)) (verdict_in w i (windows_of w i (lane_of w i)))) run.more

@@ -124,19 +124,23 @@ module _ (p : PagedView) (groups : Groups) (l : Lane) (same_groups : p.groups �
       let missing : is_base c x.entry.view x.entry.group ≡ false =
       subst (λ u. is_base c u x.entry.group ≡ false) (sym trap.of_view) (subst (λ bs. slice_index_or bs x.entry.group false ≡ false) base-is out.0) in
       record {
-        view = (x.entry, refl, record {
-          view = trap.of_view ∙ sym number-is;
-          justified = record {
-            early = trap.trap.early;
-            may_step = trap.trap.may_step;
-            next = trap.trap.next;
-            view = trap.trap.view_is;
-            group = at;
-            missing = missing;
-            chain = trap.trap.chain_is;
-          };
-          new = out.1;
-        });
+        view = (
+          x.entry,
+          refl,
+          record {
+            view = trap.of_view ∙ sym number-is;
+            justified = record {
+              early = trap.trap.early;
+              may_step = trap.trap.may_step;
+              next = trap.trap.next;
+              view = trap.trap.view_is;
+              group = at;
+              missing = missing;
+              chain = trap.trap.chain_is;
+            };
+            new = out.1;
+          },
+        );
         truthful = λ more same. lane-after (p.log ++ x.entry ∷ []) more same (new-present p.base p.log x.entry);
       }
 

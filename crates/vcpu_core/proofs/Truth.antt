@@ -281,26 +281,26 @@ module _ (c : Config) (ok : IsConfig c) where
   read-original v log w begins goes r view truth inside =
       let all : AllTaken c v log w.cleared w.held.items = subst (λ u. AllTaken c u log w.cleared w.held.items) view truth.held in
       by_found (found-taken c v log w.cleared (line_no (groups_in c).text r.place) r.window w.held.items all r.held) where
-      by_found : IsFound c v log w.cleared (line_no (groups_in c).text r.place) r.window
-          → IsOriginal (paged_at c v log) (half_no (groups_in c).text r.place) (first_in (groups_in c).text r.place r.window) (second_in (groups_in c).text r.place r.window)
-      by_found f =
-          let q : PagedView = paged_at c v f.taken.seen in
-          let n : ℕ = half_no (groups_in c).text r.place in
-          let first : first_in (groups_in c).text r.place r.window ≡ masked (paged_at c v f.taken.seen) (half_no (groups_in c).text r.place) = window-first v f.taken.seen r.place r.window inside f.line_is f.taken.is in
-          elim (is_present (paged_at c v f.taken.seen).base f.taken.seen (group_in (groups_in c).starts (2 * half_no (groups_in c).text r.place)))
-          as (λ b. is_present (paged_at c v f.taken.seen).base f.taken.seen (group_in (groups_in c).starts (2 * half_no (groups_in c).text r.place)) ≡ b
-          → IsOriginal (paged_at c v log) (half_no (groups_in c).text r.place) (first_in (groups_in c).text r.place r.window) (second_in (groups_in c).text r.place r.window)) [
-            | true ↦ λ here. record {
-              first_is = first ∙ (rw here refl);
-              second_is = λ same more. window-second v f.taken.seen r.place r.window inside f.line_is f.taken.is more ∙ (rw (same, here) refl);
-              present = present-longer (paged_at c v f.taken.seen).base f.taken.seen log (group_in (groups_in c).starts (2 * half_no (groups_in c).text r.place)) f.taken.front here;
-            }
-            | false ↦ λ here.
-                let zero : first_in (groups_in c).text r.place r.window ≡ 0 = first ∙ (rw here refl) in
-                let is_it : is_cleared w.cleared r.place ≡ true = r.zero_cleared zero in
-                let is_not : is_cleared w.cleared r.place ≡ false = cleared-present (paged_at c v f.taken.seen) w.cleared r.place (half_no (groups_in c).text r.place) good f.taken.clear inside refl here in
-                absurd (cc)
-          ] refl
+        by_found : IsFound c v log w.cleared (line_no (groups_in c).text r.place) r.window
+            → IsOriginal (paged_at c v log) (half_no (groups_in c).text r.place) (first_in (groups_in c).text r.place r.window) (second_in (groups_in c).text r.place r.window)
+        by_found f =
+            let q : PagedView = paged_at c v f.taken.seen in
+            let n : ℕ = half_no (groups_in c).text r.place in
+            let first : first_in (groups_in c).text r.place r.window ≡ masked (paged_at c v f.taken.seen) (half_no (groups_in c).text r.place) = window-first v f.taken.seen r.place r.window inside f.line_is f.taken.is in
+            elim (is_present (paged_at c v f.taken.seen).base f.taken.seen (group_in (groups_in c).starts (2 * half_no (groups_in c).text r.place)))
+            as (λ b. is_present (paged_at c v f.taken.seen).base f.taken.seen (group_in (groups_in c).starts (2 * half_no (groups_in c).text r.place)) ≡ b
+            → IsOriginal (paged_at c v log) (half_no (groups_in c).text r.place) (first_in (groups_in c).text r.place r.window) (second_in (groups_in c).text r.place r.window)) [
+              | true ↦ λ here. record {
+                first_is = first ∙ (rw here refl);
+                second_is = λ same more. window-second v f.taken.seen r.place r.window inside f.line_is f.taken.is more ∙ (rw (same, here) refl);
+                present = present-longer (paged_at c v f.taken.seen).base f.taken.seen log (group_in (groups_in c).starts (2 * half_no (groups_in c).text r.place)) f.taken.front here;
+              }
+              | false ↦ λ here.
+                  let zero : first_in (groups_in c).text r.place r.window ≡ 0 = first ∙ (rw here refl) in
+                  let is_it : is_cleared w.cleared r.place ≡ true = r.zero_cleared zero in
+                  let is_not : is_cleared w.cleared r.place ≡ false = cleared-present (paged_at c v f.taken.seen) w.cleared r.place (half_no (groups_in c).text r.place) good f.taken.clear inside refl here in
+                  absurd (cc)
+            ] refl
 
   -- the place of a fetch, and the halfwords that it would read again
   if-place : (text : Bool) (q p : ℕ) → place_if text q ≡ Some p → (text ≡ true) × (q ≡ p)

@@ -22,10 +22,10 @@ pub mod lane;
 pub mod laws;
 pub mod machine;
 mod open;
+#[cfg(test)]
+mod remapped;
 pub mod rows;
 #[cfg(test)]
 mod scripts;
-#[cfg(test)]
-mod remapped;
 #[cfg(test)]
 mod tests;

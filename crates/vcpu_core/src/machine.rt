@@ -202,7 +202,7 @@ impl<'a> Core<'a> {
         ensures after { self.new ≡ go_of self.old i }
         ensures answer { result ≡ went_of self.old i }
         ensures ready { IsReady self.old }
-            {
+    {
         if !self.board.may(i) {
             return Went::Over;
         }

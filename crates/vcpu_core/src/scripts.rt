@@ -88,5 +88,8 @@ pub fn play(alloc: Global, script: Script) -> Result<Option<Played>, NoMemory> {
 /// Whether these are the vCPUs of these digits.
 pub fn are_digits(schedule: &[VcpuNo], digits: &[u8]) -> bool {
     schedule.len() == digits.len()
-        && schedule.iter().zip(digits).all(|(i, digit)| i.0 == digit.saturating_sub(b'0'))
+        && schedule
+            .iter()
+            .zip(digits)
+            .all(|(i, digit)| i.0 == digit.saturating_sub(b'0'))
 }

@@ -165,7 +165,10 @@ fn missing_code_is_restored_and_logged_once(rt: HostRuntime) -> Result<(), Fail>
 fn is_only(views: &[View], at: u32, vcpu: u8, group: u16, pc: u64) -> bool {
     match views {
         [_, view] => match view.log() {
-            [entry] => entry.at == at && entry.vcpu.0 == vcpu && entry.group.0 == group && entry.pc.0 == pc,
+            [entry] => entry.at == at
+                && entry.vcpu.0 == vcpu
+                && entry.group.0 == group
+                && entry.pc.0 == pc,
             _ => false,
         },
         _ => false,
@@ -223,8 +226,24 @@ fn two_vcpus_recover_one_group_once(rt: HostRuntime) -> Result<(), Fail> {
 #[test]
 fn an_entry_stands_though_its_code_is_never_run(rt: HostRuntime) -> Result<(), Fail> {
     for (files, setup, events, schedule, at, group, end) in [
-        (handler(), raised(), "00000000000111000000", "00000001000", 7, 2, End::Shutdown),
-        (unmapped(), short(), "0000000000001111110", "000000001111010101011111", 8, 1, End::Spent),
+        (
+            handler(),
+            raised(),
+            "00000000000111000000",
+            "00000001000",
+            7,
+            2,
+            End::Shutdown,
+        ),
+        (
+            unmapped(),
+            short(),
+            "0000000000001111110",
+            "000000001111010101011111",
+            8,
+            1,
+            End::Spent,
+        ),
     ] {
         let script = Script {
             files,
@@ -286,7 +305,12 @@ fn a_turn_ends_at_its_limit_and_where_no_step_is_left(rt: HostRuntime) -> Result
     };
     assert!(rt; board.vcpus() == 1);
     let last = turn(&mut board, &profile, &stages, &mut lane, 1000);
-    assert!(rt; last == (Turned { steps: 70, then: Then::Over }));
+    assert!(rt;
+        last == (Turned {
+            steps: 70,
+            then: Then::Over
+        })
+    );
     assert!(rt; board.end() == Some(End::Spent));
     Ok(())
 }
