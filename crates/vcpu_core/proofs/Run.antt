@@ -1,6 +1,6 @@
 -- The full kernel's run of a schedule: its memory has the kernel text, and its clock counts the steps.
 use Rattle.std.proofs.Common.{◌≡◌, ℕ, zero, suc, ◌+◌, ◌-◌, ◌*◌, ◌<◌, ◌≤◌, true, false, List, [], ◌∷◌, ◌++◌, length, refl, sym, ap, subst, ◌∙◌, arith, ◌⊎◌, inl, inr, get_or, length-append}
-use Rattle.std.specs.Prelude.{Bool, replicate, ◌&&◌, ◌||◌, nat_le, nat_lt}
+use Rattle.std.specs.Prelude.{Bool, replicate, ◌&&◌, ◌||◌, nat_le, nat_lt, slice_index_or}
 use Rattle.std.specs.List.{list_all}
 use Rattle.std.proofs.lemmas.List.{get_or_append_left}
 use Rattle.std.proofs.lemmas.Bool.Decides.{nat_tests}
@@ -21,6 +21,8 @@ use Rattle.guest_board.specs.OpenFacts.{LieBelow}
 use Rattle.guest_board.proofs.Parts.{lie_below}
 use Rattle.run_evidence.specs.Config.{Config, IsConfig, full, groups_in, rules_in}
 use Rattle.run_evidence.proofs.Steps.{step-is, step-keeps, step-laid, stepped-clock}
+use Rattle.vcpu_core.specs.Rows.{StagesServe}
+use Rattle.vcpu_core.specs.Stages.{IsStageFor}
 use Rattle.vcpu_core.proofs.Truth.{HasText}
 
 -- a memory after the data parts: laid as before, with the same text and the same bytes in it
@@ -209,3 +211,22 @@ pub full-clock : (c : Config) (schedule : List ℕ) → (full c schedule).clock 
 full-clock c schedule =
     let run : (full c schedule).clock ≡ (first_state c.image c.setup).clock + length schedule = run-clock (rules_in c) (first_state c.image c.setup) schedule in
     omega (arith, run, first-clock c)
+
+-- a run keeps the size of memory
+run-size : (rules : Rules) (s : State) (schedule : List ℕ) → IsLaid s.ram → length (run_from rules s schedule).ram.bytes ≡ length s.ram.bytes
+run-size rules s [] laid = refl
+run-size rules s (i ∷ is) laid = run-size rules (step_of rules s i) is (step-laid rules s i laid) ∙ (step-keeps rules s i laid).size
+
+pub full-size : (c : Config) (schedule : List ℕ) → IsConfig c → length (full c schedule).ram.bytes ≡ length (first_state c.image c.setup).ram.bytes
+full-size c schedule ok = run-size (rules_in c) (first_state c.image c.setup) schedule (first-texted c ok).laid
+
+pub stages_serve : StagesServe
+stages_serve c schedule later views stages ok all =
+    let text : (full c schedule).ram.text ≡ (full c later).ram.text = (full-texted c schedule ok).has.same ∙ sym (full-texted c later ok).has.same in
+    let size : length (full c schedule).ram.bytes ≡ length (full c later).ram.bytes = full-size c schedule ok ∙ sym (full-size c later ok) in
+    record {
+      count = all.count;
+      each = λ v d h.
+          let one : IsStageFor (full c schedule).ram v (slice_index_or stages v d) = all.each v d h in
+          record { of_view = one.of_view; placing = record { same_text = one.placing.same_text ∙ text; start = one.placing.start; end = rw (← size) one.placing.end } };
+    }

@@ -15,7 +15,8 @@ use Rattle.vcpu_core.specs.declared.lane.Phase.TheVariants.{Running}
 use Rattle.vcpu_core.specs.declared.lane.Then.{Then}
 use Rattle.vcpu_core.specs.declared.lane.Then.TheVariants.{Limit, Over}
 use Rattle.vcpu_core.specs.Lanes.{after_turn}
-use Rattle.vcpu_core.specs.Turns.{AfterTurns, board_after, ends_by, lane_after, turns_by, turns_from, verdict_for, windows_for}
+use Rattle.vcpu_core.specs.declared.lane.Turned.{Turned}
+use Rattle.vcpu_core.specs.Turns.{AfterTurns, IsPhaseAfter, board_after, ends_by, lane_after, turns_by, turns_from, verdict_for, windows_for}
 use Rattle.vcpu_core.proofs.Verdicts.{start-busy, verdict-may, verdict-stuck}
 
 -- a turn that goes on after an event
@@ -109,3 +110,22 @@ pub loop-ended : (views : Views) (limit steps : ℕ) (b0 b : Seat) (l0 l : Lane)
 loop-ended views limit steps b0 b l0 l exact same =
     let none : limit - steps ≡ 0 = omega (arith, same) in
     sym exact ∙ ap (λ k. turns_from views steps k b l) none ∙ ap (λ n. turns_from views n 0 b l) same ∙ no-turn views limit b l
+
+-- the lane's phase after a turn
+phase-by : (v : Verdict) (made : ℕ) (b b' : Seat) (l : Lane) (w : Windows) (later : AfterTurns) → l.phase ≡ Running → (ends_by v ≡ None → IsPhaseAfter later.answer.then later.lane.phase)
+    → IsPhaseAfter (turns_by v made b' (after_turn b.state l.vcpu l w v) later).answer.then (turns_by v made b' (after_turn b.state l.vcpu l w v) later).lane.phase
+phase-by Idle made b b' l w later running rest = running
+phase-by (Needs n) made b b' l w later running rest = tt
+phase-by (Zeroes p) made b b' l w later running rest = tt
+phase-by (Goes start) made b b' l w later running rest = rest refl
+
+phase-after : (views : Views) (k made : ℕ) (b : Seat) (l : Lane) → l.phase ≡ Running → IsPhaseAfter (turns_from views made k b l).answer.then (turns_from views made k b l).lane.phase
+unfolding turns_from
+phase-after views zero made b l running = running
+phase-after views (suc k) made b l running =
+    phase-by (verdict_for views b l) made b (board_after views b l) l (windows_for views b l) (turns_from views (made + 1) k (board_after views b l) (lane_after views b l)) running
+    (λ goes. phase-after views k (made + 1) (board_after views b l) (lane_after views b l) (running-on views b l goes).running)
+
+pub turned_phase : (views : Views) (limit : ℕ) (b b' : Seat) (l l' : Lane) (answer : Turned) → l.phase ≡ Running → turns_from views 0 limit b l ≡ record { board = b'; lane = l'; answer = answer }
+    → IsPhaseAfter answer.then l'.phase
+turned_phase views limit b b' l l' answer running exact = subst (λ (a : AfterTurns). IsPhaseAfter a.answer.then a.lane.phase) exact (phase-after views limit 0 b l running)

@@ -7,11 +7,13 @@ use Rattle.view_store.specs.declared.view.Patched.{Patched}
 use Rattle.view_store.specs.declared.view.Patched.TheVariants.{Recovered, WasPresent}
 use Rattle.view_store.specs.Paged.{PagedView, is_logged, logged}
 use Rattle.guest_board.specs.Board.{Seat}
-use Rattle.run_evidence.specs.Config.{Config, IsConfig, IsLawful, groups_in}
+use Rattle.gstage.specs.Table.{Table}
+use Rattle.run_evidence.specs.Config.{Config, IsConfig, IsLawful, full, groups_in}
 use Rattle.run_evidence.specs.Evidence.{AreJustified, IsJustified, log_in}
 use Rattle.run_evidence.specs.Growing.{Begins, IsAllowedFrom, board_of, paged_at}
 use Rattle.vcpu_core.specs.declared.lane.Lane.{Lane}
 use Rattle.vcpu_core.specs.Placed.{IsPlaced}
+use Rattle.vcpu_core.specs.Stages.{AreStagesFor}
 use Rattle.vcpu_core.specs.Truthful.{IsTruthful}
 
 -- n more steps of vCPU i: the board is that of the longer schedule, in which each of them exists and fetches what the
@@ -71,3 +73,8 @@ TruthfulLanesStay = (c : Config) (schedule later : List ℕ) (logs more : List (
 -- what the rows ask of a lane is true of a truthful one
 abbrev pub TruthfulLanesArePlaced : Type 0
 TruthfulLanesArePlaced = (c : Config) (schedule : List ℕ) (logs : List (List LogEntry)) (l : Lane) → IsTruthful c schedule logs l → IsPlaced (groups_in c) l l.phase
+
+-- second-stage tables that serve the board after one schedule serve it after any other
+abbrev pub StagesServe : Type 0
+StagesServe = (c : Config) (schedule later : List ℕ) (views : ℕ) (stages : List Table) → IsConfig c
+    → AreStagesFor (full c schedule).ram views stages → AreStagesFor (full c later).ram views stages

@@ -1,6 +1,6 @@
 -- Several events of a running lane, one after another.
 -- The rule: steps are made until so many were made, or a line is needed, or a zero traps, or the vCPU may not step.
-use Rattle.std.specs.Prelude.{ℕ, ◌+◌, Option, Some, None}
+use Rattle.std.specs.Prelude.{◌≡◌, ℕ, ◌+◌, Option, Some, None}
 use Rattle.std.proofs.Common.{zero, suc}
 use Rattle.view_file.specs.declared.views.Views.{Views}
 use Rattle.view_file.specs.Named.{view_named}
@@ -10,12 +10,14 @@ use Rattle.guest_board.specs.declared.seen.Verdict.TheVariants.{Idle, Needs, Zer
 use Rattle.guest_board.specs.Board.{Seat, name_of}
 use Rattle.guest_board.specs.Seen.{verdict_of, after_verdict}
 use Rattle.vcpu_core.specs.declared.lane.Lane.{Lane}
+use Rattle.vcpu_core.specs.declared.lane.Phase.{Phase}
+use Rattle.vcpu_core.specs.declared.lane.Phase.TheVariants.{Running}
 use Rattle.vcpu_core.specs.declared.lane.Turned.{Turned}
 use Rattle.vcpu_core.specs.declared.lane.Then.{Then}
 use Rattle.vcpu_core.specs.declared.lane.Then.TheVariants.{Limit, Need, Zero, Over}
 use Rattle.vcpu_core.specs.declared.lane.Went.{Went}
 use Rattle.vcpu_core.specs.declared.lane.Went.TheVariants as went
-use Rattle.vcpu_core.specs.Lanes.{seated, after_turn}
+use Rattle.vcpu_core.specs.Lanes.{IsTrapped, IsWanting, after_turn, seated}
 
 -- the board, the lane, and what is answered
 pub record AfterTurns : Type 0 where
@@ -67,3 +69,10 @@ went_then Limit = went.Stepped
 went_then Need = went.Erased
 went_then Zero = went.Erased
 went_then Over = went.Over
+
+-- the lane's phase after a turn: a need and a zero set it
+abbrev pub IsPhaseAfter : Then → Phase → Type 0
+IsPhaseAfter Limit phase = phase ≡ Running
+IsPhaseAfter Need phase = IsWanting phase
+IsPhaseAfter Zero phase = IsTrapped phase
+IsPhaseAfter Over phase = phase ≡ Running

@@ -5,7 +5,7 @@ ghost use Rattle.run_evidence.specs.Config.{Config, IsConfig};
 ghost use Rattle.vcpu_core.specs.First.{first_world};
 ghost use Rattle.vcpu_core.specs.declared.lane.Went.TheVariants.{Over};
 ghost use Rattle.vcpu_core.specs.World.{go_all, went_of, erased};
-ghost use Rattle.vcpu_core.specs.Rows.{TruthfulLanesArePlaced, TruthfulLanesStay};
+ghost use Rattle.vcpu_core.specs.Rows.{StagesServe, TruthfulLanesArePlaced, TruthfulLanesStay};
 ghost use Rattle.vcpu_core.specs.Sound.{HasTruthfulLanes, IsSound};
 ghost use Rattle.vcpu_core.specs.Bound.{OneInTenSteps};
 ghost use Rattle.vcpu_core.specs.Missed.{HasEnded, EachLogsItsMisses, EachLogsMissesSoFar, FirstLogsAllMisses};
@@ -28,6 +28,11 @@ pub fn lanes_are_truthful_after_every_order()
 /// A truthful lane stays truthful when other vCPUs step and when logs grow.
 pub fn truthful_lanes_stay()
     ensures { TruthfulLanesStay }
+{}
+
+/// Second-stage tables that serve the board after one schedule serve it after any other.
+pub fn stages_serve_every_board()
+    ensures { StagesServe }
 {}
 
 /// What the rows ask of a lane is true of a truthful one.

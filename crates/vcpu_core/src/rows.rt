@@ -19,7 +19,7 @@ ghost use Rattle.vcpu_core.specs.Stages.{AreStagesFor};
 ghost use Rattle.vcpu_core.specs.Lanes.{IsLooked, IsTrapped, IsWanting, after_turn, fill_row, look_row, mend_answer, mend_row, mend_view, seated, with_newest};
 ghost use Rattle.vcpu_core.specs.Placed.{IsPlaced};
 ghost use Rattle.vcpu_core.specs.Rows.{FillKeeps, LookKeeps, MendKeeps, TurnsKeep};
-ghost use Rattle.vcpu_core.specs.Turns.{board_after, ends_by, lane_after, turns_from, turns_of, verdict_for};
+ghost use Rattle.vcpu_core.specs.Turns.{IsPhaseAfter, board_after, ends_by, lane_after, turns_from, turns_of, verdict_for};
 
 use crate::lane::{Lane, Phase, Then, Turned};
 use arrayvec::ArrayVec;
@@ -89,6 +89,7 @@ pub fn turn(
     requires some { 1 ≤ limit }
     requires stages { AreStagesFor board.old.state.ram (length views.now.apps + 1) stages.now }
     ensures exact { turns_of views.now limit board.old lane.old ≡ record { board = board.new; lane = lane.new; answer = result } }
+    ensures phase { IsPhaseAfter result.then lane.new.phase }
     ensures stages { AreStagesFor board.new.state.ram (length views.now.apps + 1) stages.now }
     ensures kept { TurnsKeep views.now board.old lane.old board.new lane.new result.steps }
 {

@@ -2,6 +2,7 @@
 
 ghost use Rattle.std.specs.Prelude.{◌≡◌, ◌<◌, ◌+◌, IfOk, IfSome, length};
 
+use crate::kernels::Files;
 use crate::lane::Went;
 use crate::machine::Core;
 use fc_numbers::memory::NoMemory;
@@ -17,9 +18,8 @@ use view_store::view::View;
 /// A kernel, a setup and views, as files, and the vCPU of each event, by its digit.
 #[derive(Clone, Copy)]
 pub struct Script {
-    pub image: &'static str,
+    pub files: Files,
     pub setup: &'static str,
-    pub views: &'static str,
     pub events: &'static str,
 }
 
@@ -56,14 +56,14 @@ fn round(core: &mut Core, count: u8) -> bool {
 
 /// The run of the script; None where a file is not accepted.
 pub fn play(alloc: Global, script: Script) -> Result<Option<Played>, NoMemory> {
-    let Ok(image) = read_image(alloc, script.image.as_bytes()) else {
+    let Ok(image) = read_image(alloc, script.files.image.as_bytes()) else {
         return Ok(None)
     };
     let Ok(setup) = read_setup(alloc, script.setup.as_bytes(), &image) else {
         return Ok(None)
     };
     let table = Table::of(alloc, &image)?;
-    let Ok(profile) = read_views(alloc, script.views.as_bytes(), &image, &table) else {
+    let Ok(profile) = read_views(alloc, script.files.views.as_bytes(), &image, &table) else {
         return Ok(None)
     };
     let mut core = Core::open(alloc, &image, &table, &setup, &profile)?;
@@ -88,8 +88,5 @@ pub fn play(alloc: Global, script: Script) -> Result<Option<Played>, NoMemory> {
 /// Whether these are the vCPUs of these digits.
 pub fn are_digits(schedule: &[VcpuNo], digits: &[u8]) -> bool {
     schedule.len() == digits.len()
-        && schedule
-            .iter()
-            .zip(digits)
-            .all(|(i, digit)| i.0 == digit.saturating_sub(b'0'))
+        && schedule.iter().zip(digits).all(|(i, digit)| i.0 == digit.saturating_sub(b'0'))
 }

@@ -4,7 +4,7 @@ use Rattle.guest_board.specs.Board.{Seat}
 use Rattle.vcpu_core.specs.declared.lane.Lane.{Lane}
 use Rattle.vcpu_core.specs.Turns.{board_after, lane_after}
 use Rattle.vcpu_core.proofs.Turned.{turns_keep}
-use Rattle.vcpu_core.proofs.Turning.{IsRunningOn, loop-ended, loop-ends, loop-goes, running-on}
+use Rattle.vcpu_core.proofs.Turning.{IsRunningOn, loop-ended, loop-ends, loop-goes, running-on, turned_phase}
 use Rattle.vcpu_core.proofs.rows.turn.Goals as goal
 
 pub returns-in-Some-clause-exact : goal.returns-in-Some-clause-exact
@@ -41,3 +41,11 @@ returns-clause-exact c =
 pub returns-clause-kept : goal.returns-clause-kept
 returns-clause-kept c =
     turns_keep c.args.views.now c.args.limit c.args.board.now c.loop-steps.board c.args.lane.now c.loop-steps.lane (record { steps = c.args.limit; then = Limit }) (returns-clause-exact c)
+
+pub returns-in-Some-clause-phase : goal.returns-in-Some-clause-phase
+returns-in-Some-clause-phase c =
+    turned_phase c.args.views.now c.args.limit c.args.board.now c.take_step.new.board c.args.lane.now c.take_step.new.lane (record { steps = c.loop-steps.steps; then = c.in-Some.then }) c.requires.phase (returns-in-Some-clause-exact c)
+
+pub returns-clause-phase : goal.returns-clause-phase
+returns-clause-phase c =
+    turned_phase c.args.views.now c.args.limit c.args.board.now c.loop-steps.board c.args.lane.now c.loop-steps.lane (record { steps = c.args.limit; then = Limit }) c.requires.phase (returns-clause-exact c)
