@@ -1,12 +1,11 @@
 -- With one vCPU every list after which the run has ended is undisturbed.
-use Rattle.std.proofs.Common.{◌≡◌, ◌≢◌, ℕ, ◌+◌, ◌<◌, true, false, Bool, List, [], ◌∷◌, length, refl, sym, subst, ◌∙◌, arith, Option, Some, None}
+use Rattle.std.proofs.Common.{◌≡◌, ◌≢◌, ℕ, true, List, [], ◌∷◌, length, refl, sym, subst, ◌∙◌, arith, Option, Some, None}
 use Rattle.std.specs.Prelude.{is_none, IsSome}
 use Rattle.fc_numbers.specs.declared.machine.End.{End}
 use Rattle.guest_board.specs.declared.rules.Rules.{Rules}
 use Rattle.guest_board.specs.Board.{may, Seat, State}
 use Rattle.run_evidence.proofs.Steps.{may-none, may-slot}
 use Rattle.run_evidence.specs.Config.{Config, IsConfig}
-use Rattle.vcpu_core.specs.declared.lane.Went.{Went}
 use Rattle.vcpu_core.specs.declared.lane.Went.TheVariants.{Over, Stepped, Erased}
 use Rattle.vcpu_core.specs.World.{World, go_all, go_of, went_of}
 use Rattle.vcpu_core.specs.First.{first_world}

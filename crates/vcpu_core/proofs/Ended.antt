@@ -8,25 +8,19 @@ use native.Mathlib.Decide.{dec_lt}
 use Rattle.fc_numbers.specs.declared.machine.End.{End}
 use Rattle.guest_board.specs.declared.rules.Rules.{Rules}
 use Rattle.guest_board.specs.declared.slot.Slot.{Slot}
-use Rattle.guest_board.specs.declared.seen.Verdict.{Verdict}
-use Rattle.guest_board.specs.declared.seen.Verdict.TheVariants.{Idle, Needs, Zeroes, Goes}
 use Rattle.guest_board.specs.Board.{Seat, State, made_of, may, next_start, no_slot, run_from, step_of, stepped_by}
 use Rattle.guest_board.specs.First.{first_slot, first_slots, first_state}
 use Rattle.guest_board.proofs.Idle.{idle_runs_have_ended}
 use Rattle.run_evidence.specs.Config.{Config, IsConfig, IsLawful, full, rules_in}
 use Rattle.run_evidence.proofs.OneVcpu.{full-vcpus}
 use Rattle.run_evidence.proofs.Steps.{may-slot, step-is, stepped-slots}
-use Rattle.vcpu_core.specs.declared.lane.Lane.{Lane}
-use Rattle.vcpu_core.specs.declared.lane.Phase.{Phase}
-use Rattle.vcpu_core.specs.declared.lane.Phase.TheVariants.{Running, Wants, Trapped, Looked}
 use Rattle.vcpu_core.specs.declared.lane.Went.TheVariants.{Over}
-use Rattle.vcpu_core.specs.Lanes.{went_by}
 use Rattle.vcpu_core.specs.First.{first_world}
-use Rattle.vcpu_core.specs.World.{World, go_all, go_of, gone, lane_of, verdict_in, went_in, went_of, windows_of}
+use Rattle.vcpu_core.specs.World.{go_all, went_of}
 use Rattle.vcpu_core.specs.Missed.{HasEnded}
 use Rattle.vcpu_core.proofs.Kept.{IsKept}
 use Rattle.vcpu_core.proofs.Start.{kept_of_events}
-use Rattle.vcpu_core.proofs.Verdicts.{start-busy, verdict-may}
+use Rattle.vcpu_core.proofs.Events.{over-may}
 
 -- a vCPU that may not step, of one that there is and that has steps left, is stuck by the end
 left-by : (n made steps : ℕ) (going : Bool) → (nat_lt 0 n && going && nat_lt made steps) ≡ false → 0 < n → made < steps → going ≡ false
@@ -78,30 +72,6 @@ full-steps c ok one schedule =
     let some : 1 ≤ c.setup.steps = ok.setup.setup.steps_some in
     run-steps (rules_in c) (first_state c.image c.setup) schedule (record { one = full-vcpus c [] ∙ one; left = λ going. omega (arith, first-made c one, some) })
 
--- an event is none only where the vCPU may not step
-verdict-over : (w : World) (i : ℕ) (l : Lane) → may w.board.rules w.board.state i ≡ true → went_by (verdict_in w i (windows_of w i l)) ≡ Over → ⊥
-verdict-over w i l m e = start-busy w.board.state.ram.text (windows_of w i l) (next_start w.board.state i) (sym (verdict-may w.board.rules w.board.state i (windows_of w i l) m) ∙ by-verdict (verdict_in w i (windows_of w i l)) e) where
-  by-verdict : (v : Verdict) → went_by v ≡ Over → v ≡ Idle
-  by-verdict Idle e = refl
-  by-verdict (Needs n) e = absurd (cc)
-  by-verdict (Zeroes p) e = absurd (cc)
-  by-verdict (Goes r) e = absurd (cc)
-
-phase-over : (w : World) (i : ℕ) (l : Lane) (phase : Phase) → may w.board.rules w.board.state i ≡ true → went_in w i l phase ≡ Over → ⊥
-unfolding went_in
-phase-over w i l Running m e = verdict-over w i l m e
-phase-over w i l (Wants n) m e = absurd (cc)
-phase-over w i l (Trapped t) m e = absurd (cc)
-phase-over w i l (Looked k) m e = absurd (cc)
-
-over-stuck : (w : World) (i : ℕ) → went_of w i ≡ Over → may w.board.rules w.board.state i ≡ false
-unfolding went_of
-over-stuck w i e =
-    elim (may w.board.rules w.board.state i) as (λ b. may w.board.rules w.board.state i ≡ b → (if b then went_in w i (lane_of w i) (lane_of w i).phase else Over) ≡ Over → b ≡ false) [
-      | true ↦ λ m z. absurd (phase-over w i (lane_of w i) (lane_of w i).phase m z)
-      | false ↦ λ m z. refl
-    ] refl e
-
 open-ended : (rules : Rules) (s : State) → HasSteps rules s → may rules s 0 ≡ false → is_none s.end ≡ true → ⊥
 open-ended rules s k stuck going =
     let left : made_of s 0 < rules.steps = k.left going in
@@ -120,4 +90,4 @@ over_is_ended c ok one is over =
     let k : IsKept c (go_all (first_world c) is) = kept_of_events c ok is in
     ended-by (go_all (first_world c) is).board.rules (go_all (first_world c) is).board.state
     (subst (λ (b : Seat). HasSteps b.rules b.state) (sym k.board) (full-steps c ok one (go_all (first_world c) is).board.schedule))
-    (over-stuck (go_all (first_world c) is) 0 over)
+    (over-may (go_all (first_world c) is) 0 over)

@@ -2,22 +2,18 @@
 use Rattle.std.proofs.Common.{◌≡◌, ◌≢◌, ℕ, zero, suc, ◌+◌, ◌<◌, true, false, List, [], ◌∷◌, length, refl, sym, ap, ◌∙◌, length-set}
 use Rattle.std.specs.Prelude.{slice_index_or, slice_set, if◌then◌else◌}
 use Rattle.std.proofs.lemmas.List.{get_or-set_other}
-use Rattle.function_table.specs.Groups.{Groups}
-use Rattle.view_file.specs.declared.views.Views.{Views}
-use Rattle.guest_board.specs.declared.rules.Rules.{Rules}
 use Rattle.guest_board.specs.declared.seen.Verdict.{Verdict}
 use Rattle.guest_board.specs.declared.seen.Verdict.TheVariants.{Idle, Needs, Zeroes, Goes}
-use Rattle.guest_board.specs.Board.{Seat, State, may, made_of, next_start}
-use Rattle.guest_board.specs.Seen.{after_verdict, by_start}
+use Rattle.guest_board.specs.Board.{Seat, may, made_of, next_start}
+use Rattle.guest_board.specs.Seen.{after_verdict}
 use Rattle.guest_board.proofs.Others.{leaves_others}
 use Rattle.guest_board.proofs.Steps.{counts_one}
 use Rattle.vcpu_core.specs.declared.lane.Lane.{Lane}
 use Rattle.vcpu_core.specs.declared.lane.Phase.{Phase}
 use Rattle.vcpu_core.specs.declared.lane.Phase.TheVariants.{Running, Wants, Trapped, Looked}
-use Rattle.vcpu_core.specs.declared.lane.Went.{Went}
 use Rattle.vcpu_core.specs.declared.lane.Went.TheVariants.{Over, Stepped, Erased}
 use Rattle.vcpu_core.specs.Lanes.{after_turn, after_fill, after_look, after_mend, went_by}
-use Rattle.vcpu_core.specs.World.{World, gone, went_in, go_of, went_of, go_all, lane_of, paged_in, windows_of, verdict_in, blank_lane}
+use Rattle.vcpu_core.specs.World.{World, gone, went_in, go_of, went_of, lane_of, paged_in, windows_of, verdict_in, blank_lane}
 use Rattle.vcpu_core.proofs.Verdicts.{verdict-may, start-busy}
 
 verdict-erased : (b : Seat) (i : ℕ) (v : Verdict) → went_by v ≡ Erased → after_verdict b i v ≡ b

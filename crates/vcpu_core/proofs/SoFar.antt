@@ -1,6 +1,6 @@
 -- With one vCPU the logs are the misses so far; one entry more may stand, of the fetch that comes next.
-use Rattle.std.proofs.Common.{◌≡◌, ◌≢◌, ℕ, ◌+◌, ◌<◌, ◌≤◌, true, false, Bool, List, [], ◌∷◌, ◌++◌, length, take, refl, sym, ap, subst, ◌∙◌, arith, Some, ◌⊎◌, inl, inr}
-use Rattle.std.specs.Prelude.{◌==◌, ◌&&◌, ◌||◌, nat_le, slice_index, slice_index_or, slice_set}
+use Rattle.std.proofs.Common.{◌≡◌, ◌≢◌, ℕ, ◌<◌, true, false, Bool, List, [], ◌∷◌, ◌++◌, length, take, refl, sym, ap, subst, ◌∙◌, arith, Some, ◌⊎◌, inl, inr}
+use Rattle.std.specs.Prelude.{◌==◌, ◌&&◌, ◌||◌, nat_le, slice_index, slice_set}
 use Rattle.std.specs.List.{list_any}
 use Rattle.std.proofs.lemmas.Bool.Decides.{nat_tests}
 use Rattle.std.proofs.lemmas.List.{get_or-set_other, get_or-set_same, length-map}
@@ -11,7 +11,7 @@ use Rattle.function_table.specs.Groups.{group_at}
 use Rattle.view_store.specs.Paged.{PagedView}
 use Rattle.guest_board.specs.Board.{may, next_of}
 use Rattle.run_evidence.specs.Config.{Config, IsConfig, IsLawful, full, full_at, groups_in, is_base, rules_in, view_at}
-use Rattle.run_evidence.specs.Evidence.{AllJustified, AllOfView, IsAllowed, IsJustified, IsOnce, is_logged, is_open, log_in}
+use Rattle.run_evidence.specs.Evidence.{AllJustified, AllOfView, IsAllowed, IsJustified, IsOnce, is_logged, log_in}
 use Rattle.run_evidence.specs.Misses.{misses_under, steps_of}
 use Rattle.run_evidence.specs.Sound.{IsSoundView}
 use Rattle.run_evidence.proofs.Logged.{AllFrom, AllOfSteps, AreOrdered, IsOfStep, log-is-misses}

@@ -1,6 +1,6 @@
 -- In an undisturbed list each trap is mended, and its vCPU steps, before any other vCPU does: so each entry is of a step.
-use Rattle.std.proofs.Common.{◌≡◌, ℕ, ◌+◌, ◌<◌, true, false, Bool, List, [], ◌∷◌, ◌++◌, length, refl, sym, ap, subst, ◌∙◌, arith, Some, None, ◌⊎◌, inl, inr, length-append}
-use Rattle.std.specs.Prelude.{slice_index, slice_index_or, slice_set, if◌then◌else◌}
+use Rattle.std.proofs.Common.{◌≡◌, ℕ, ◌<◌, true, false, Bool, List, [], ◌∷◌, ◌++◌, length, refl, sym, ap, subst, ◌∙◌, arith, Some, ◌⊎◌, inl, inr, length-append}
+use Rattle.std.specs.Prelude.{slice_index_or, slice_set, if◌then◌else◌}
 use Rattle.recovery.specs.declared.Looked.{Looked as Looking}
 use Rattle.chain_log.specs.declared.entry.LogEntry.{LogEntry}
 use Rattle.function_table.specs.Groups.{group_at}
@@ -9,7 +9,7 @@ use Rattle.view_store.specs.Paged.{PagedView, is_present, logged, patched}
 use Rattle.guest_board.specs.declared.seen.Verdict.{Verdict}
 use Rattle.guest_board.specs.declared.seen.Verdict.TheVariants.{Idle, Needs, Zeroes, Goes}
 use Rattle.guest_board.specs.Board.{Seat, may, next_of}
-use Rattle.guest_board.specs.Seen.{after_verdict, trapped_at}
+use Rattle.guest_board.specs.Seen.{after_verdict}
 use Rattle.run_evidence.proofs.Steps.{may-slot}
 use Rattle.run_evidence.specs.Config.{Config, IsConfig, groups_in, is_base, full_at, view_in, fetched_at, view_at}
 use Rattle.run_evidence.specs.Evidence.{IsJustified, AllJustified}
@@ -19,13 +19,12 @@ use Rattle.run_evidence.proofs.Runs.{member-more, member-now}
 use Rattle.vcpu_core.specs.declared.lane.Lane.{Lane}
 use Rattle.vcpu_core.specs.declared.lane.Phase.{Phase}
 use Rattle.vcpu_core.specs.declared.lane.Phase.TheVariants.{Running, Wants, Trapped, Looked}
-use Rattle.vcpu_core.specs.declared.lane.Went.{Went}
-use Rattle.vcpu_core.specs.declared.lane.Went.TheVariants.{Over, Stepped, Erased}
+use Rattle.vcpu_core.specs.declared.lane.Went.TheVariants.{Over, Erased}
 use Rattle.vcpu_core.specs.Lanes.{after_turn, after_fill, after_look, after_mend, went_by}
-use Rattle.vcpu_core.specs.First.{first_world, first_lanes, first_lane}
+use Rattle.vcpu_core.specs.First.{first_world}
 use Rattle.vcpu_core.specs.World.{World, gone, went_in, go_of, went_of, go_all, erased, lane_of, paged_in, blank_lane, windows_of, verdict_in, after_event}
 use Rattle.vcpu_core.specs.Sound.{IsSound}
-use Rattle.vcpu_core.specs.Truthful.{IsTruePhase, IsTruthful}
+use Rattle.vcpu_core.specs.Truthful.{IsTruePhase}
 use Rattle.vcpu_core.proofs.Ready.{set-lane, set-paged}
 use Rattle.vcpu_core.proofs.Kept.{IsKept, go-kept}
 use Rattle.vcpu_core.proofs.Run.{full-clock}
@@ -50,12 +49,6 @@ AllDue schedule next (e ∷ es) = IsDue schedule next e × AllDue schedule next 
 pub record IsCalm (lanes : List Lane) (views : List PagedView) (schedule : List ℕ) (next : ℕ → Type 0) : Type 0 where
   pub stand : (k : ℕ) → k < length lanes → StandsBy (length schedule) (next k) (slice_index_or lanes k (blank_lane k)).phase
   pub due : (v : ℕ) → v < length views → AllDue schedule next (paged_in views v).log
-
-stands-map : (now : ℕ) (P Q : Type 0) → (P → Q) → (phase : Phase) → StandsBy now P phase → StandsBy now Q phase
-stands-map now P Q f Running k = tt
-stands-map now P Q f (Wants n) k = f k
-stands-map now P Q f (Trapped t) k = (k.0, f k.1)
-stands-map now P Q f (Looked x) k = (k.0, f k.1)
 
 due-push : (schedule : List ℕ) (next : ℕ → Type 0) (e : LogEntry) (log : List LogEntry) → AllDue schedule next log → IsDue schedule next e → AllDue schedule next (log ++ e ∷ [])
 due-push schedule next e [] all new = (new, tt)

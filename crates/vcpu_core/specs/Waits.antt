@@ -1,6 +1,6 @@
 -- How many events of a vCPU may still come before its next step: at most nine, and one less after each.
 -- These are the measures by which a run ends: of one vCPU, and of all.
-use Rattle.std.specs.Prelude.{ℕ, ◌+◌, ◌-◌, ◌*◌, ◌==◌, Bool, if◌then◌else◌, Option, Some, None, List, [], ◌∷◌, length, map}
+use Rattle.std.specs.Prelude.{ℕ, ◌+◌, ◌-◌, ◌*◌, ◌==◌, Bool, if◌then◌else◌, Option, Some, None, List, [], length, map}
 use Rattle.std.specs.List.{list_any, range_with_len, sum_by}
 use Rattle.fc_numbers.specs.declared.places.Span.{Span}
 use Rattle.fc_numbers.specs.declared.window.Window.{Window}
