@@ -4,6 +4,7 @@ use Rattle.fc_numbers.specs.declared.machine.GKind.TheVariants.{Sv39x4}
 use Rattle.fc_numbers.specs.declared.places.TheConstants.{RAM_START}
 use Rattle.rv_decode.specs.declared.Inst.{Inst}
 use Rattle.guest_input.specs.Text.{Range}
+use Rattle.guest_input.specs.declared.image.Start.{Start}
 use Rattle.guest_input.specs.declared.image.Function.{Function}
 use Rattle.guest_input.specs.declared.image.Image.{Image}
 use Rattle.guest_input.specs.declared.setup.Setup.{Setup}
@@ -48,13 +49,16 @@ task_names = names_at 0x80100000 ++ names_at 0x80140000
 abbrev pub guest_image : ℕ → Image
 guest_image seed = image_of (guest_text seed) task_names (guest_functions seed)
 
--- the kernel switches tasks in `switch_to`
+-- the kernel switches tasks in `switch_to`, which is number 2 of its functions
+abbrev pub hook_at : Start
+hook_at = record { range = 0; offset = offset_of (functions_from 0 fixed) 2 }
+
 abbrev pub guest_setup : Setup
 guest_setup = record {
   vcpus = 2;
   ram = 2097152;
   steps = 8000;
-  hook = Some (record { range = 0; offset = 188 });
+  hook = Some hook_at;
   name_at = 24;
   start = Some (codes "red");
   events = [];

@@ -5,6 +5,8 @@ ghost use Rattle.fc_numbers.specs.declared.spans.TheConstants.{TEXT_MOST};
 ghost use Rattle.fc_numbers.specs.Names.{is_app_name};
 ghost use Rattle.guest_maker.specs.Guest.{image_of, names_at, task_names, guest_setup, hostile_setup};
 
+use crate::programs::{BOOT, TRAP};
+use crate::text::WORD;
 use elf_read::parts::ElfParts;
 use fc_numbers::machine::GKind;
 use fc_numbers::memory::NoMemory;
@@ -31,8 +33,8 @@ const NAME_AT: u64 = 24;
 /// The bytes from the first task of a vCPU to its second.
 const TASK: u64 = 64;
 
-/// The offset of `switch_to`.
-const SWITCH_AT: u32 = 188;
+/// The offset of `switch_to`, behind `boot` and `trap`.
+const SWITCH_AT: u32 = WORD * (BOOT.len() + TRAP.len()) as u32;
 
 /// The image of one range of text, which begins where RAM does and holds the first instruction at its start.
 pub(crate) fn image_of(

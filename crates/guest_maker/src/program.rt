@@ -19,6 +19,12 @@ pub(crate) const NUMBERED: u32 = 200;
 /// The most lines of a program, three pages.
 pub(crate) const LINES_MOST: usize = 3072;
 
+/// The lines of the functions whose lines stand as they are.
+const FIXED_LINES: usize = 78;
+
+/// The most lines of a function with a drawn body.
+const DRAWN_LINES_MOST: usize = 13;
+
 /// The most instructions without use in a drawn body.
 const IDLE_MOST: u32 = 4;
 
@@ -112,7 +118,7 @@ fn drawn_lines(alloc: Global, generator: &mut Generator, number: u8) -> Result<V
     requires { number < NUMBERED }
     ensures lines { IfOk result (λ lines. lines.items ≡ drawn_lines number generator.old) }
     ensures state { OnOk result (generator.new ≡ behind_routine number generator.old) }
-    ensures few { IfOk result (λ lines. vec_len lines ≤ 13) }
+    ensures few { IfOk result (λ lines. vec_len lines ≤ DRAWN_LINES_MOST) }
 {
     let mut lines = Vec::from_slice(alloc, &ENTER)?;
     push_idle(&mut lines, generator)?;
@@ -137,10 +143,10 @@ fn push_drawn(
     number: u8,
 ) -> Result<(), NoMemory>
     requires number { number < NUMBERED }
-    requires room { vec_len program.old.lines + 13 ≤ LINES_MOST }
+    requires room { vec_len program.old.lines + DRAWN_LINES_MOST ≤ LINES_MOST }
     ensures program { OnOk result ((rs : List Routine) → IsProgram program.old rs → IsProgram program.new (rs ++ drawn_routine number generator.old ∷ [])) }
     ensures state { OnOk result (generator.new ≡ behind_routine number generator.old) }
-    ensures size { OnOk result (vec_len program.new.lines ≤ vec_len program.old.lines + 13) }
+    ensures size { OnOk result (vec_len program.new.lines ≤ vec_len program.old.lines + DRAWN_LINES_MOST) }
 {
     let name = drawn_name(alloc, number)?;
     let lines = drawn_lines(alloc, generator, number)?;
@@ -164,7 +170,7 @@ fn push_fixed(
 /// The functions whose lines stand as they are.
 fn fixed_program(alloc: Global) -> Result<Program, NoMemory>
     ensures program { IfOk result (λ made. IsProgram made fixed) }
-    ensures size { IfOk result (λ made. vec_len made.lines ≡ 78) }
+    ensures size { IfOk result (λ made. vec_len made.lines ≡ FIXED_LINES) }
 {
     let mut program = Program {
         lines: Vec::new(alloc),
@@ -201,7 +207,7 @@ fn push_all_drawn(
     program: &mut Program,
     generator: &mut Generator,
 ) -> Result<(), NoMemory>
-    requires { vec_len program.old.lines ≤ 78 }
+    requires { vec_len program.old.lines ≤ FIXED_LINES }
     ensures program { OnOk result ((rs : List Routine) → IsProgram program.old rs → IsProgram program.new (rs ++ numbered NUMBERED generator.old)) }
     ensures size { OnOk result (vec_len program.new.lines ≤ LINES_MOST) }
 {

@@ -19,7 +19,7 @@ use std::alloc::Global;
 pub(crate) const FIXED: usize = 5;
 
 /// The bytes of a word.
-const WORD: u32 = 4;
+pub(crate) const WORD: u32 = 4;
 
 /// The position of a function in the program.
 fn number_of(drawn: &Drawn, to: Label) -> usize
