@@ -6,6 +6,6 @@ use Rattle.guest_board.proofs.open.new_caches.Given as goal
 
 abbrev pub invariant-loop : goal.invariant-loop
 invariant-loop l = record {
-    many : length l.caches.items ≡ l.counter;
-    fit : (ram : Ram) → All (Fits ram) l.caches.items
-  }
+  many : length l.caches.items ≡ l.counter;
+  fit : (ram : Ram) → All (Fits ram) l.caches.items;
+}

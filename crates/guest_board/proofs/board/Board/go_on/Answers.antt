@@ -1,4 +1,4 @@
-use Rattle.std.proofs.Common.{◌≡◌, ◌≤◌, ◌∙◌, ◌+◌, ℕ, List, ap, sym, subst, arith, length, length-set}
+use Rattle.std.proofs.Common.{◌≡◌, ◌≤◌, ◌∙◌, ◌+◌, List, ap, sym, subst, arith, length, length-set}
 use Rattle.std.specs.Prelude.{slice_index_or}
 use Rattle.std.specs.Vec.{vec_len, with_item, with_items}
 use Rattle.guest_board.specs.declared.slot.Slot.{Slot}
@@ -25,18 +25,18 @@ invariant_of-self g c =
       schedule = c.push_vcpu.new.schedule;
       end = c.end_by-self-inside.result;
     }) =
-      record {
-        eight = omega (arith, many, c.self.invariant.eight);
-        few = omega (arith, less, c.push_vcpu.ensures.len, c.self.invariant.few);
-        schedule_room = omega (arith, less, c.push_vcpu.ensures.len, c.push_vcpu.ensures.room, c.self.invariant.schedule_room);
-        console_room = omega (arith, less, c.say.ensures.len, c.say.ensures.room, c.self.invariant.console_room);
-        depths = λ k.
+    record {
+      eight = omega (arith, many, c.self.invariant.eight);
+      few = omega (arith, less, c.push_vcpu.ensures.len, c.self.invariant.few);
+      schedule_room = omega (arith, less, c.push_vcpu.ensures.len, c.push_vcpu.ensures.room, c.self.invariant.schedule_room);
+      console_room = omega (arith, less, c.say.ensures.len, c.say.ensures.room, c.self.invariant.console_room);
+      depths = λ k.
           subst (λ (slots : List Slot). (slice_index_or slots k no_slot).depth ≤ vec_len c.push_vcpu.new.schedule) (sym slots)
           (omega (arith, c.carry_at-left.ensures.depths k, clock, c.push_vcpu.ensures.len, c.self.inside.schedule.ok.0));
-        stamps = λ k. omega (arith, c.carry_at-left.ensures.keeps.stamp_most k, c.self.invariant.stamps k, c.push_vcpu.ensures.len);
-        caches = length-set c.self.inside.caches.items c.i.inside.0 c.carry_at-left.new.cache ∙ c.self.invariant.caches ∙ sym many;
-        fit =
+      stamps = λ k. omega (arith, c.carry_at-left.ensures.keeps.stamp_most k, c.self.invariant.stamps k, c.push_vcpu.ensures.len);
+      caches = length-set c.self.inside.caches.items c.i.inside.0 c.carry_at-left.new.cache ∙ c.self.invariant.caches ∙ sym many;
+      fit =
           all_fit_after c.self.inside.ram c.carry_at-left.new.ram c.self.inside.caches.items c.i.inside.0 c.carry_at-left.new.cache c.self.invariant.fit
           c.carry_at-left.ensures.others c.carry_at-left.ensures.fits;
-      }
+    }
     in after
