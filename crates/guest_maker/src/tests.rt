@@ -96,18 +96,36 @@ fn fixed_text() -> &'static str {
 /// Guests of three numbers, each with its digest: it is over place and size of text, starts of functions, and text.
 fn digests() -> [(u64, &'static str); 3] {
     [
-        (0, "c5a53effa51f2c592b3e904d0650a9c5b8c982028f3931e6f7c43adfcd4f8d1c"),
-        (7, "6929c47ddca31d1c149b48d519bca095d94fd7d11423823adcabc9e4f1a05e5d"),
-        (u64::MAX, "41520e4a8fd1eb126aec80e18efa0898e7bdf014bca3fdc830187b24e3e5b857"),
+        (
+            0,
+            "c5a53effa51f2c592b3e904d0650a9c5b8c982028f3931e6f7c43adfcd4f8d1c",
+        ),
+        (
+            7,
+            "6929c47ddca31d1c149b48d519bca095d94fd7d11423823adcabc9e4f1a05e5d",
+        ),
+        (
+            u64::MAX,
+            "41520e4a8fd1eb126aec80e18efa0898e7bdf014bca3fdc830187b24e3e5b857",
+        ),
     ]
 }
 
 /// Hostile guests of three numbers, each with its digest.
 fn hostile_digests() -> [(u64, &'static str); 3] {
     [
-        (0, "5e38cc7738baa38a5de12b1579394523a58e54a4ff9f32d973dabf5322da756f"),
-        (63, "9d37b2cc6a686e7da113b611fc9592021e6a554ff04bdef7f29dffbc461604cc"),
-        (u64::MAX, "9b75eb8e2449c0877225caccc91005b5c24af07b7ccb7a34f2df4d1b6542be80"),
+        (
+            0,
+            "5e38cc7738baa38a5de12b1579394523a58e54a4ff9f32d973dabf5322da756f",
+        ),
+        (
+            63,
+            "9d37b2cc6a686e7da113b611fc9592021e6a554ff04bdef7f29dffbc461604cc",
+        ),
+        (
+            u64::MAX,
+            "9b75eb8e2449c0877225caccc91005b5c24af07b7ccb7a34f2df4d1b6542be80",
+        ),
     ]
 }
 
@@ -115,8 +133,7 @@ fn hostile_digests() -> [(u64, &'static str); 3] {
 fn has_function(image: &Image, number: usize, offset: u32, name: &str) -> bool {
     match image.functions.as_slice().get(number) {
         Some(function) => {
-            function.at == Start { range: 0, offset }
-                && function.name.as_slice() == name.as_bytes()
+            function.at == Start { range: 0, offset } && function.name.as_slice() == name.as_bytes()
         }
         None => false,
     }
