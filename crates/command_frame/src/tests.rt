@@ -1,22 +1,16 @@
-//! Products of several files, what fails at their writing, the line of each answer, and the kinds of files that are taken.
+//! Products of several files, what fails at their writing, and the line of each answer.
 
 use crate::answer::Ended;
 use crate::fault::{Fault, Kind};
 use crate::finish::finish;
-use crate::inputs::{take_free_views, take_image, take_script, take_setup, take_trace, take_views};
 use crate::line::{no_words, tell, turn_away};
 use crate::product::{Product, Refusal, Written};
 use fc_numbers::machine::Stop;
-use fc_numbers::places::VcpuNo;
 use fc_outside::memory::MemStore;
 use fc_outside::memory_sink::MemSink;
-use function_table::table::Table;
-use guest_image::image::{Field, ImageFault};
-use guest_image::setup::SetupFault;
 use sqlite_items::Items;
 use std::alloc::Global;
 use std::test::Fail;
-use trace_file::fault::TraceFault;
 use view_file::fault::ViewFault;
 
 /// The words of a command that reads one file and writes two.
@@ -170,9 +164,9 @@ fn rows() -> &'static [Row] {
     &ROWS
 }
 
-fn words_of(alloc: Global, given: &[&str]) -> Result<Vec<String>, Fail> {
+fn words(alloc: Global) -> Result<Vec<String>, Fail> {
     let mut all = Vec::new(alloc);
-    for word in given {
+    for word in WORDS {
         all.push(String::from_str(alloc, word)?)?;
     }
     Ok(all)
@@ -216,7 +210,7 @@ fn made(alloc: Global, makes: &Makes) -> Result<Result<Product, Refusal>, Fail> 
 #[test]
 fn products_are_written_in_order_and_told(rt: HostRuntime) -> Result<(), Fail> {
     let alloc = rt.alloc();
-    let words = words_of(alloc, &WORDS)?;
+    let words = words(alloc)?;
     for row in rows() {
         let label = row.label;
         let mut store = MemStore::new(Vec::new(alloc), vec![in alloc; row.write]?);
@@ -252,136 +246,5 @@ fn short_lines_are_told(rt: HostRuntime) -> Result<(), Fail> {
     assert_eq!(rt; turn_away(&mut err), 2);
     assert_eq!(rt; no_words(&mut err), 10);
     assert!(rt; err.bytes() == b"2 words\n10 memory\n".as_slice());
-    Ok(())
-}
-
-/// Refused files, and their statuses and lines.
-static REFUSED: [(Fault, u8, &[u8]); 7] = [
-    (Fault::TooLong(Kind::Setup), 4, b"4 setup 0 TooLong\n"),
-    (
-        Fault::Setup(SetupFault::Limit(Field::Steps)),
-        4,
-        b"4 setup 3 Limit steps\n",
-    ),
-    (Fault::TooLong(Kind::Script), 6, b"6 script 0 TooLong\n"),
-    (
-        Fault::Script(TraceFault::BadVcpu(1)),
-        6,
-        b"6 script 9 BadVcpu 1\n",
-    ),
-    (Fault::TooLong(Kind::Trace), 6, b"6 trace 0 TooLong\n"),
-    (
-        Fault::Trace(TraceFault::Truncated(18)),
-        6,
-        b"6 trace 2 Truncated 18\n",
-    ),
-    (
-        Fault::Image(ImageFault::NotJson),
-        3,
-        b"3 image 20 NotJson\n",
-    ),
-];
-
-/// The refused files, so that a test speaks of any table of this form.
-fn refused() -> &'static [(Fault, u8, &'static [u8])] {
-    &REFUSED
-}
-
-#[test]
-fn refused_files_are_told(rt: HostRuntime) -> Result<(), Fail> {
-    let alloc = rt.alloc();
-    let words = words_of(alloc, &WORDS)?;
-    for (fault, status, line) in refused() {
-        let mut store = MemStore::new(Vec::new(alloc), Vec::new(alloc));
-        let mut out = MemSink::new(alloc, 16, Vec::new(alloc))?;
-        let mut err = MemSink::new(alloc, 64, Vec::new(alloc))?;
-        let made = Err(Refusal::Fault(*fault));
-        let told = finish(alloc, &words, made, &mut store, &mut out);
-        assert_eq!(rt; tell(&mut err, &words, &told), *status);
-        assert!(rt; err.bytes() == *line, "{fault:?}");
-    }
-    Ok(())
-}
-
-/// The words of a command that takes every kind of file; nothing holds the last.
-const TAKES: [&str; 8] = [
-    "take", "image", "setup", "views", "script", "trace", "damaged", "absent",
-];
-
-/// A kernel of one return instruction.
-const IMAGE: &[u8] = b"{\"base\":2147483648,\"entry\":2147483648,\"text\":\"8280\"}";
-
-const SETUP: &[u8] = b"{\"vcpus\":2,\"ram\":65536,\"steps\":20}";
-
-/// Views of no kernel's text in particular.
-const VIEWS: &[u8] =
-    b"{\"apps\":[],\"shared\":[],\"text\":\"0000000000000000000000000000000000000000000000000000000000000000\",\"version\":2}";
-
-/// The trace of one vCPU that made no step and has the full view alone: all its numbers are 0 but those two.
-fn trace_bytes(alloc: Global) -> Result<Vec<u8>, Fail> {
-    let mut bytes = Vec::from_slice(alloc, b"FCTRACE1\x01")?;
-    for _ in 0..386 {
-        bytes.push(0)?;
-    }
-    bytes.push(1)?;
-    for _ in 0..32 {
-        bytes.push(0)?;
-    }
-    Ok(bytes)
-}
-
-/// A store in which each kind of file is held, and a damaged one.
-fn files(alloc: Global) -> Result<MemStore, Fail> {
-    let mut store = MemStore::new(Vec::new(alloc), Vec::new(alloc));
-    let trace = trace_bytes(alloc)?;
-    for (name, bytes) in [
-        ("image", IMAGE),
-        ("setup", SETUP),
-        ("views", VIEWS),
-        ("script", b"0 1\n".as_slice()),
-        ("trace", trace.as_slice()),
-        ("damaged", b"x".as_slice()),
-    ] {
-        store.room(alloc, name, Some(bytes), bytes.len())?;
-    }
-    Ok(store)
-}
-
-#[test]
-fn each_kind_of_file_is_taken(rt: HostRuntime) -> Result<(), Fail> {
-    let alloc = rt.alloc();
-    let words = words_of(alloc, &TAKES)?;
-    let mut store = files(alloc)?;
-    let image = take_image(alloc, &mut store, &words, 1)?;
-    let setup = take_setup(alloc, &mut store, &words, 2, &image)?;
-    assert_eq!(rt; setup.steps, 20);
-    let views = take_free_views(alloc, &mut store, &words, 3)?;
-    assert_eq!(rt; views.text, [0; 32]);
-    let script = take_script(alloc, &mut store, &words, 4, 2)?;
-    assert!(rt; script.as_slice() == [VcpuNo(0), VcpuNo(1)].as_slice());
-    let trace = take_trace(alloc, &mut store, &words, 5)?;
-    assert_eq!(rt; trace.vcpus, 1);
-    Ok(())
-}
-
-#[test]
-fn each_kind_of_file_is_refused(rt: HostRuntime) -> Result<(), Fail> {
-    let alloc = rt.alloc();
-    let words = words_of(alloc, &TAKES)?;
-    let mut store = files(alloc)?;
-    let image = take_image(alloc, &mut store, &words, 1)?;
-    let table = Table::of(alloc, &image)?;
-    let setup = take_setup(alloc, &mut store, &words, 6, &image).err();
-    assert!(rt; setup == Some(Refusal::Fault(Fault::Setup(SetupFault::NotJson))));
-    let views = take_views(alloc, &mut store, &words, 3, &image, &table).err();
-    assert!(rt; views == Some(Refusal::Fault(Fault::Views(ViewFault::OtherText))));
-    let free = take_free_views(alloc, &mut store, &words, 6).err();
-    assert!(rt; free == Some(Refusal::Fault(Fault::Views(ViewFault::NotJson))));
-    let script = take_script(alloc, &mut store, &words, 4, 1).err();
-    assert!(rt; script == Some(Refusal::Fault(Fault::Script(TraceFault::BadVcpu(2)))));
-    let trace = take_trace(alloc, &mut store, &words, 6).err();
-    assert!(rt; trace == Some(Refusal::Fault(Fault::Trace(TraceFault::NotTrace))));
-    let absent = take_trace(alloc, &mut store, &words, 7).err();
-    assert!(rt; absent == Some(Refusal::Unread(7)));
     Ok(())
 }

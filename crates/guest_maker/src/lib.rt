@@ -21,8 +21,6 @@ mod hostile;
 mod line;
 mod program;
 mod programs;
-#[cfg(test)]
-mod tests;
 mod text;
 
 use crate::guest::{guest_setup, hostile_setup, image_of, task_names};

@@ -11,5 +11,3 @@
 pub mod laws;
 pub mod parts;
 pub mod taken;
-#[cfg(test)]
-mod tests;

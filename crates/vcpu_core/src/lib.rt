@@ -16,16 +16,8 @@
 //! above, the program.
 #![tactic(auto)]
 
-#[cfg(test)]
-mod kernels;
 pub mod lane;
 pub mod laws;
 pub mod machine;
 mod open;
-#[cfg(test)]
-mod remapped;
 pub mod rows;
-#[cfg(test)]
-mod scripts;
-#[cfg(test)]
-mod tests;
