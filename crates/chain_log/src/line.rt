@@ -52,7 +52,7 @@ fn push_distance(alloc: Global, line: &mut Vec<u8>, n: u64) -> Result<(), NoMemo
 }
 
 /// The function that holds a place of text.
-fn holder<'a>(image: &'a Image, table: &Table, at: Gpa) -> &'a Function
+pub fn holder<'a>(image: &'a Image, table: &Table, at: Gpa) -> &'a Function
     requires table { table.now ≡ groups_of image.now }
     requires text { in_text table.now at ≡ true }
     ensures { result.now ≡ holder_of image.now at }

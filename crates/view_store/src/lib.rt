@@ -11,6 +11,7 @@
 //! pairs of halfwords and ask for patches. A view never changes the text, and knows of no vCPU but in its log.
 #![tactic(auto)]
 
+pub mod halves;
 pub mod laws;
 mod pages;
 #[cfg(test)]

@@ -1,16 +1,16 @@
 //! The mask of a text: the halfwords of some groups, and zeros.
 
-ghost use Rattle.std.specs.Prelude.{◌≡◌, ◌≤◌, ◌<◌, ◌+◌, ◌-◌, ◌*◌, ◌/◌, ◌%◌, ◌^◌, ◌&&◌, ◌==◌, ℕ, true, false, length, nat_lt, slice_index, slice_index_or, if◌then◌else◌, IfOk};
-ghost use Rattle.fc_numbers.specs.Spans.{in_text, offset_in, text_size};
-ghost use Rattle.function_table.specs.Groups.{IsGroups, IsRangeOf, group_in, groups_count, half_of, is_between};
+ghost use Rattle.std.specs.Prelude.{◌≡◌, ◌≤◌, ◌<◌, ◌+◌, ◌-◌, ◌*◌, ◌==◌, ℕ, false, length, slice_index, slice_index_or, if◌then◌else◌, IfOk};
+ghost use Rattle.fc_numbers.specs.Spans.{text_size};
+ghost use Rattle.function_table.specs.Groups.{group_in, groups_count, half_of, is_between};
 
+use crate::halves::halves_of;
 use fc_numbers::memory::NoMemory;
-use fc_numbers::places::{Gpa, GroupNo, Span};
-use fc_numbers::spans::{offset_of, text_size};
+use fc_numbers::places::GroupNo;
+use fc_numbers::spans::text_size;
 use function_table::table::Table;
 use lane_kernels::keep_or_zero;
 use std::alloc::Global;
-use std::ops::Range;
 
 /// How many halfwords are masked at a time.
 const BLOCK: usize = 256;
@@ -76,38 +76,6 @@ fn restore(pages: &mut [u16], text: &[u8], from: usize, to: usize)
         keep_block(pages, text, &marks[..end - at], at);
         at = end;
     }
-}
-
-/// The number of the halfword at a place of text, counted through all ranges.
-fn half_number(text: &[Span], place: Gpa) -> usize
-    requires few { text_size text.now < 2 ^ 64 }
-    requires text { in_text text.now place ≡ true }
-    ensures { result ≡ offset_in text.now place / 2 }
-{
-    match offset_of(text, place) {
-        Some(offset) => (offset / 2) as usize,
-        None => unreachable!(),
-    }
-}
-
-/// How many halfwords a span has.
-fn halves_in(span: Span) -> usize
-    ensures { result ≡ (span.end - span.start) / 2 }
-{
-    (span.end.0.saturating_sub(span.start.0) / 2) as usize
-}
-
-/// The numbers of the halfwords of group g.
-fn halves_of(table: &Table, g: GroupNo) -> Range<usize>
-    requires group { g < groups_count table.now }
-    ensures order { result.start ≤ result.end }
-    ensures within { 2 * result.end ≤ text_size table.now.text }
-    ensures each { (n : ℕ) → 2 * n < text_size table.now.text → is_between result.start result.end n ≡ (group_in table.now.starts (2 * n) == g) }
-{
-    let span = table.range(g);
-    let start = half_number(table.text(), span.start);
-    let end = start + halves_in(span);
-    start..end
 }
 
 /// Restores the halfwords of group g.

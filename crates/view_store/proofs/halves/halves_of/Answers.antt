@@ -1,7 +1,7 @@
 use Rattle.std.proofs.Common.{◌≡◌, ◌+◌, ◌*◌, ◌≤◌, ◌/◌, arith}
 use Rattle.fc_numbers.specs.Spans.{offset_in, text_size}
 use Rattle.view_store.proofs.PageLemmas.{halves-of-group, range-within}
-use Rattle.view_store.proofs.pages.halves_of.Goals as goal
+use Rattle.view_store.proofs.halves.halves_of.Goals as goal
 
 pub returns-clause-within : goal.returns-clause-within
 returns-clause-within c =
