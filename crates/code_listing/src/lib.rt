@@ -12,4 +12,6 @@ mod form;
 mod items;
 mod lines;
 pub mod listing;
+#[cfg(test)]
+mod tests;
 mod text;
