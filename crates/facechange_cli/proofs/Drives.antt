@@ -33,7 +33,7 @@ module _ (sounds : EveryOrderIsSound) (goes_on : RunsGoOn) (traced : RunsHaveSou
     state = s.state ∙ ap (full c) (sym s.schedule);
     lawful = subst (IsLawful c) (sym s.schedule) s.lawful;
     numbered = s.numbered;
-    views = λ v d within. subst (λ h. IsSoundView c h v (slice_index_or w.paged_views v d)) (sym s.schedule)
+    each = λ v d within. subst (λ h. IsSoundView c h v (slice_index_or w.paged_views v d)) (sym s.schedule)
         (subst (IsSoundView c (steps sounds goes_on c ok script w r) v) (get_or_default w.paged_views v blank_paged d within) (s.views v within));
     allowed = subst (IsAllowed c (logs_of w.paged_views)) (sym s.schedule) s.allowed;
   }

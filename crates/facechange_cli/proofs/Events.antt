@@ -58,10 +58,10 @@ over_stays w i e = elim (may w.board.rules w.board.state i) as (λ b. may w.boar
 ] refl e
 
 -- one more event of a list
-pub go_all-take : (w : World) (is : List ℕ) (k : ℕ) → k < length is → go_all w (take (k + 1) is) ≡ go_of (go_all w (take k is)) (get_or is k 0)
-go_all-take w is k within = rw (add-one k) (more w is k within)
+pub go_all-take : (w : World) (is : List ℕ) (k i : ℕ) → k < length is → i ≡ get_or is k i → go_all w (take (k + 1) is) ≡ go_of (go_all w (take k is)) i
+go_all-take w is k i within there = rw (add-one k) (more w is k i within there)
   where
-    more : (w : World) (is : List ℕ) (k : ℕ) → k < length is → go_all w (take (suc k) is) ≡ go_of (go_all w (take k is)) (get_or is k 0)
-    more w [] k within = absurd (omega (arith, within))
-    more w (j ∷ js) zero within = refl
-    more w (j ∷ js) (suc k) within = more (go_of w j) js k (omega (arith, within))
+    more : (w : World) (is : List ℕ) (k i : ℕ) → k < length is → i ≡ get_or is k i → go_all w (take (suc k) is) ≡ go_of (go_all w (take k is)) i
+    more w [] k i within there = absurd (omega (arith, within))
+    more w (j ∷ js) zero i within there = ap (go_of w) (sym there)
+    more w (j ∷ js) (suc k) i within there = more (go_of w j) js k i (omega (arith, within)) there
