@@ -1,8 +1,12 @@
 //! Walks over tables made by hand.
 
-ghost use Rattle.std.specs.Prelude.{◌≡◌, IfOk, length};
+ghost use Rattle.std.specs.Prelude.{◌≡◌, ◌+◌, ◌<◌, ◌≤◌, false, IfOk, length};
+ghost use Rattle.guest_ram.specs.Ram.{is_text, stamp_of};
+ghost use Rattle.sv39_walk.specs.Cache.{Fits, KeepsFits};
 
 use super::*;
+use crate::cache::WalkCache;
+use crate::laws::{new_caches_fit, stores_keep_fits};
 use fc_numbers::memory::NoMemory;
 use fc_numbers::places::{RAM_START, Span};
 use fc_numbers::spans::Spans;
@@ -261,5 +265,75 @@ fn four_levels_are_read_where_satp_has_mode_9(rt: HostRuntime) -> Result<(), Fai
         let got = walk(&ram, satp, Mode::Vs, false, false, Access::Load, Va(va));
         assert_eq!(rt; got, want, "{name}");
     }
+    Ok(())
+}
+
+/// satp of MODE 8 with the page number of the third page of memory.
+const SATP_KEPT: u64 = 0x8000_0000_0008_0002;
+
+/// The place of the leaf entry for the page at 0x80001000.
+const LEAF: u64 = 0x8000_4008;
+
+/// Memory of 64 KiB in which the pages at 0x80000000 and 0x80001000 both lead to the first page, the text.
+fn memory_of_two_leaves(alloc: Global) -> Result<GuestRam, NoMemory>
+    ensures free { IfOk result (λ ram. is_text ram LEAF ≡ false) }
+    ensures stamp { IfOk result (λ ram. stamp_of ram 4 ≡ 0) }
+{
+    let leaf: u64 = 0x2000_004b;
+    let mut text = Spans::new();
+    text.push(Span {
+        start: Gpa(RAM_START),
+        end: Gpa(RAM_START + PAGE),
+    });
+    let mut ram = GuestRam::new(alloc, 65536, text)?;
+    ram.place(Gpa(0x8000_2010), &0x2000_0c01_u64.to_le_bytes());
+    ram.place(Gpa(0x8000_3000), &0x2000_1001_u64.to_le_bytes());
+    ram.place(Gpa(0x8000_4000), &leaf.to_le_bytes());
+    ram.place(Gpa(LEAF), &leaf.to_le_bytes());
+    Ok(ram)
+}
+
+/// Stores a leaf entry, as a guest does.
+fn store_leaf(ram: &mut GuestRam, pte: u64)
+    requires free { is_text ram.old LEAF ≡ false }
+    requires stamp { stamp_of ram.old 4 < 100 }
+    ensures fits { KeepsFits ram.old ram.new }
+    ensures free { is_text ram.new LEAF ≡ false }
+    ensures stamp { stamp_of ram.new 4 ≤ stamp_of ram.old 4 + 1 }
+{
+    // The call says that the memory is laid out with its text in it.
+    let _laid = ram.text();
+    stores_keep_fits();
+    let _ = ram.store(Gpa(LEAF), Width::Doubleword, pte);
+}
+
+/// The kept translation of an address for a fetch in supervisor mode.
+fn kept(cache: &mut WalkCache, ram: &GuestRam, va: u64) -> Walked
+    requires { Fits ram.now cache.old }
+    ensures { Fits ram.now cache.new }
+{
+    cache.cached_walk(
+        ram,
+        SATP_KEPT,
+        Mode::Vs,
+        false,
+        false,
+        Access::Fetch,
+        Va(va),
+    )
+}
+
+#[test]
+fn kept_translation_follows_each_store_to_its_entry(rt: HostRuntime) -> Result<(), Fail> {
+    let mut ram = memory_of_two_leaves(rt.alloc())?;
+    let first_page = Walked::At(Gpa(RAM_START));
+    new_caches_fit();
+    let mut cache = WalkCache::new();
+    assert_eq!(rt; kept(&mut cache, &ram, 0x8000_1000), first_page);
+    store_leaf(&mut ram, 0);
+    assert_eq!(rt; kept(&mut cache, &ram, 0x8000_1000), Walked::PageFault);
+    assert_eq!(rt; kept(&mut cache, &ram, 0x8000_0000), first_page);
+    store_leaf(&mut ram, 0x2000_004b);
+    assert_eq!(rt; kept(&mut cache, &ram, 0x8000_1000), first_page);
     Ok(())
 }
