@@ -16,8 +16,6 @@
 //! above, the program.
 #![tactic(auto)]
 
-#[cfg(test)]
-mod kernels;
 pub mod lane;
 pub mod laws;
 pub mod machine;
@@ -25,7 +23,5 @@ mod open;
 #[cfg(test)]
 mod remapped;
 pub mod rows;
-#[cfg(test)]
-mod scripts;
 #[cfg(test)]
 mod tests;

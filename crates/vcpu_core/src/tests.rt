@@ -5,23 +5,15 @@ ghost use Rattle.fc_numbers.specs.Spans.{IsTextBelow};
 ghost use Rattle.guest_input.specs.Accepted.{IsImage, IsSetupFor};
 ghost use Rattle.guest_input.specs.Text.{spans_of};
 
-use crate::kernels::{five_lines, handler, lines, one, raised, short, split, two, unmapped};
-use crate::lane::{Lane, Phase, Then, Turned, Went};
+use crate::lane::Went;
 use crate::machine::Core;
-use crate::open::start_stages;
-use crate::rows::turn;
-use crate::scripts::{Script, are_digits, play};
-use arrayvec::ArrayVec;
 use fc_numbers::machine::{End, GKind};
 use fc_numbers::memory::NoMemory;
 use fc_numbers::name::Name;
 use fc_numbers::places::{Gpa, Span, VcpuNo, ViewNo};
 use fc_numbers::shared::SharedBytes;
 use fc_numbers::spans::Spans;
-use fc_numbers::window::Window;
 use function_table::table::Table;
-use guest_board::board::Board;
-use guest_board::seen::Windows;
 use guest_input::image::{Function, Image, Start};
 use guest_input::ranges::Ranges;
 use guest_input::setup::Setup;
@@ -29,7 +21,6 @@ use sqlite_items::Items;
 use std::alloc::Global;
 use std::test::Fail;
 use view_file::read::read_views;
-use view_store::view::View;
 
 /// The place at which the kernel begins.
 const BASE: u64 = 0x8000_0000;
@@ -158,159 +149,5 @@ fn missing_code_is_restored_and_logged_once(rt: HostRuntime) -> Result<(), Fail>
             assert!(rt; caller.0 == 0x8000_0004);
         }
     }
-    Ok(())
-}
-
-/// Whether there are two views, and this is the only entry of the second: of this clock, vCPU, group and place.
-fn is_only(views: &[View], at: u32, vcpu: u8, group: u16, pc: u64) -> bool {
-    match views {
-        [_, view] => match view.log() {
-            [entry] => entry.at == at
-                && entry.vcpu.0 == vcpu
-                && entry.group.0 == group
-                && entry.pc.0 == pc,
-            _ => false,
-        },
-        _ => false,
-    }
-}
-
-#[test]
-fn windows_are_kept_until_a_fifth_replaces_the_oldest(rt: HostRuntime) -> Result<(), Fail> {
-    for (files, answers) in [
-        (lines(), "eeseeseeseesssssss"),
-        (five_lines(), "eeseeseeseeseesees"),
-    ] {
-        let script = Script {
-            files,
-            setup: one(),
-            events: "000000000000000000",
-        };
-        let Some(played) = play(rt.alloc(), script)? else {
-            assert!(rt; false, "files");
-            return Ok(());
-        };
-        assert!(rt; played.answers.as_slice() == answers.as_bytes());
-        assert!(rt; played.board.clock() == 100);
-        assert!(rt; played.board.end() == Some(End::Spent));
-    }
-    Ok(())
-}
-
-/// In the first script vCPU 1 has its window before vCPU 0 mends, and traps on the stale zero. In the second both trap, and
-/// vCPU 1 mends first.
-#[test]
-fn two_vcpus_recover_one_group_once(rt: HostRuntime) -> Result<(), Fail> {
-    for (events, schedule, at, vcpu) in [
-        ("000001110111111", "01101110101", 1, 0),
-        ("000001111110", "0101010101010", 2, 1),
-    ] {
-        let script = Script {
-            files: split(),
-            setup: two(),
-            events,
-        };
-        let Some(played) = play(rt.alloc(), script)? else {
-            assert!(rt; false, "files");
-            return Ok(());
-        };
-        assert!(rt; are_digits(played.board.schedule(), schedule.as_bytes()));
-        assert!(rt; played.board.console() == b"AA".as_slice());
-        assert!(rt; played.board.end() == Some(End::Shutdown));
-        assert!(rt; is_only(&played.views, at, vcpu, 1, 0x8000_003e));
-    }
-    Ok(())
-}
-
-/// An interrupt comes before the recovered code; a page is taken away before it.
-#[test]
-fn an_entry_stands_though_its_code_is_never_run(rt: HostRuntime) -> Result<(), Fail> {
-    for (files, setup, events, schedule, at, group, end) in [
-        (
-            handler(),
-            raised(),
-            "00000000000111000000",
-            "00000001000",
-            7,
-            2,
-            End::Shutdown,
-        ),
-        (
-            unmapped(),
-            short(),
-            "0000000000001111110",
-            "000000001111010101011111",
-            8,
-            1,
-            End::Spent,
-        ),
-    ] {
-        let script = Script {
-            files,
-            setup,
-            events,
-        };
-        let Some(played) = play(rt.alloc(), script)? else {
-            assert!(rt; false, "files");
-            return Ok(());
-        };
-        assert!(rt; are_digits(played.board.schedule(), schedule.as_bytes()));
-        assert!(rt; played.board.console().is_empty());
-        assert!(rt; played.board.end() == Some(end));
-        assert!(rt; is_only(&played.views, at, 0, group, 0x8000_0024));
-    }
-    Ok(())
-}
-
-/// A lane of vCPU 0 under the full view, with one window of line 0, all c.j itself.
-fn lone_lane() -> Lane
-    ensures vcpu { result.vcpu ≡ 0 }
-    ensures phase { result.phase ≡ Phase.Running }
-{
-    let mut held = ArrayVec::new();
-    held.push(Window {
-        line: 0,
-        halves: [0xa001; 33],
-    });
-    Lane {
-        vcpu: VcpuNo(0),
-        windows: Windows {
-            view: ViewNo(0),
-            held,
-            cleared: None,
-        },
-        phase: Phase::Running,
-    }
-}
-
-#[test]
-fn a_turn_ends_at_its_limit_and_where_no_step_is_left(rt: HostRuntime) -> Result<(), Fail> {
-    let alloc = rt.alloc();
-    let image = kernel(alloc)?;
-    let table = Table::of(alloc, &image)?;
-    let setup = setup(alloc, None, &image);
-    let Ok(profile) = read_views(alloc, VIEWS.as_bytes(), &image, &table) else {
-        assert!(rt; false, "views");
-        return Ok(());
-    };
-    let mut board = Board::open(alloc, &image, &setup)?;
-    let stages = start_stages(alloc, board.ram(), &profile, GKind::Sv39x4)?;
-    assert!(rt; board.vcpus() == 1);
-    let mut lane = lone_lane();
-    let Turned { steps, then } = turn(&mut board, &profile, &stages, &mut lane, 30);
-    assert!(rt; steps == 30);
-    let Then::Limit = then else {
-        assert!(rt; false, "limit");
-        return Ok(());
-    };
-    assert!(rt; board.vcpus() == 1);
-    let last = turn(&mut board, &profile, &stages, &mut lane, 1000);
-    assert!(rt;
-        last == (Turned {
-            steps: 70,
-            then: Then::Over
-        })
-    );
-    assert!(rt; board.end() == Some(End::Spent));
     Ok(())
 }
