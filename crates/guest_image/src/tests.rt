@@ -3,7 +3,7 @@
 use crate::image_file::read_image;
 use crate::setup_file::read_setup;
 use fc_numbers::machine::GKind;
-use guest_input::image::{Image, Start};
+use guest_input::image::Image;
 use std::alloc::Global;
 use std::test::Fail;
 
@@ -520,23 +520,6 @@ fn image_past_the_end_of_ram_is_refused(rt: HostRuntime) -> Result<(), Fail> {
         let got = setup_answer(alloc, setup, &image)?;
         assert_eq!(rt; got.as_str(), want, "{setup}");
     }
-    Ok(())
-}
-
-#[test]
-fn hook_is_the_start_of_the_one_function_of_its_name(rt: HostRuntime) -> Result<(), Fail> {
-    let alloc = rt.alloc();
-    let image = read_image(alloc, TWO_FUNCTIONS.as_bytes())?;
-    let file = b"{\"vcpus\":1,\"ram\":4096,\"steps\":1,\"hook\":\"put\",\"name_at\":8}";
-    let setup = read_setup(alloc, file, &image)?;
-    assert!(rt;
-        setup.hook
-            == Some(Start {
-                range: 0,
-                offset: 12,
-            })
-    );
-    assert!(rt; setup.name_at == 8);
     Ok(())
 }
 
