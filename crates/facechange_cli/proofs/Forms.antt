@@ -3,12 +3,13 @@ use Rattle.std.proofs.Common.{◌≡◌, ℕ, zero, suc, ◌≤◌, ◌<◌, Lis
 use Rattle.std.specs.Prelude.{get_or}
 use Rattle.guest_input.specs.declared.setup.Setup.{Setup}
 use Rattle.guest_input.specs.declared.limits.TheConstants.{STEPS_MOST}
-use Rattle.facechange_cli.specs.Words.{IsTry, IsNoForm}
+use Rattle.facechange_cli.specs.Words.{IsTry, IsDriveForm, IsNoForm}
 use Rattle.facechange_cli.specs.declared.words.Command.{Command}
-use Rattle.facechange_cli.specs.declared.words.Command.TheVariants.{Try}
+use Rattle.facechange_cli.specs.declared.words.Command.TheVariants.{Try, Drive}
 
-pub no_form : (words : List (List ℕ)) → ((setup : Setup) → IsTry words setup → ⊥) → IsNoForm words
-no_form words try (Try setup) form = try setup form
+pub no_form : (words : List (List ℕ)) → ((setup : Setup) → IsTry words setup → ⊥) → (IsDriveForm words → ⊥) → IsNoForm words
+no_form words try drive (Try setup) form = try setup form
+no_form words try drive Drive form = drive form
 
 pub bad-steps : (words : List (List ℕ)) (word : List ℕ) → get_or words 4 [] ≡ word
     → ((steps : ℕ) → word ≡ decimal steps → 1 ≤ steps → steps ≤ STEPS_MOST → ⊥) → (setup : Setup) → IsTry words setup → ⊥
@@ -32,3 +33,16 @@ module _ {A : Type 0} (f : A → List ℕ) where
   six-words (x0 ∷ x1 ∷ x2 ∷ x3 ∷ x4 ∷ []) a d e six = absurd (omega (arith, six))
   six-words (x0 ∷ x1 ∷ x2 ∷ x3 ∷ x4 ∷ x5 ∷ []) a d e six = λ ia id ie. rw (ia, id, ie) refl
   six-words (x0 ∷ x1 ∷ x2 ∷ x3 ∷ x4 ∷ x5 ∷ x6 ∷ xs) a d e six = absurd (omega (arith, six))
+
+  -- the words of seven items
+  pub seven-words : (xs : List A) (a : List ℕ) → length xs ≡ 7 → get_or (map f xs) 0 [] ≡ a
+      → map f xs ≡ a ∷ get_or (map f xs) 1 [] ∷ get_or (map f xs) 2 [] ∷ get_or (map f xs) 3 [] ∷ get_or (map f xs) 4 [] ∷ get_or (map f xs) 5 [] ∷ get_or (map f xs) 6 [] ∷ []
+  seven-words [] a seven = absurd (omega (arith, seven))
+  seven-words (x0 ∷ []) a seven = absurd (omega (arith, seven))
+  seven-words (x0 ∷ x1 ∷ []) a seven = absurd (omega (arith, seven))
+  seven-words (x0 ∷ x1 ∷ x2 ∷ []) a seven = absurd (omega (arith, seven))
+  seven-words (x0 ∷ x1 ∷ x2 ∷ x3 ∷ []) a seven = absurd (omega (arith, seven))
+  seven-words (x0 ∷ x1 ∷ x2 ∷ x3 ∷ x4 ∷ []) a seven = absurd (omega (arith, seven))
+  seven-words (x0 ∷ x1 ∷ x2 ∷ x3 ∷ x4 ∷ x5 ∷ []) a seven = absurd (omega (arith, seven))
+  seven-words (x0 ∷ x1 ∷ x2 ∷ x3 ∷ x4 ∷ x5 ∷ x6 ∷ []) a seven = λ is. rw is refl
+  seven-words (x0 ∷ x1 ∷ x2 ∷ x3 ∷ x4 ∷ x5 ∷ x6 ∷ x7 ∷ xs) a seven = absurd (omega (arith, seven))

@@ -1,6 +1,9 @@
 pub mod Setups
 pub mod Words
+pub mod Log
+pub mod Engine
 pub mod Alone
+pub mod Driven
 pub mod Requests
 pub mod Top
 pub mod Served

@@ -3,18 +3,20 @@
 use Rattle.std.specs.Prelude.{◌≡◌, ℕ, List, [], ◌∷◌}
 use Rattle.fc_numbers.specs.declared.machine.End.{End}
 use Rattle.fc_numbers.specs.declared.machine.End.TheVariants as end
-use Rattle.guest_input.specs.declared.image.Image.{Image}
 use Rattle.guest_input.specs.declared.setup.Setup.{Setup}
 use Rattle.view_file.specs.declared.views.Views.{Views}
 use Rattle.run_evidence.specs.Config.{Config, IsConfig}
-use Rattle.command_frame.specs.Promise.{Promise, Request, takes_image, takes_views, makes}
+use Rattle.command_frame.specs.Promise.{Promise, Request, takes_image, takes_setup, takes_views, takes_script, makes}
 use Rattle.command_frame.specs.declared.answer.Ended.{Ended}
 use Rattle.command_frame.specs.declared.answer.Ended.TheVariants.{Finished, Stopped}
 use Rattle.command_frame.specs.declared.product.Written.{Written}
 use Rattle.command_frame.specs.declared.product.Product.{Product}
 use Rattle.facechange_cli.specs.declared.words.Command.{Command}
-use Rattle.facechange_cli.specs.declared.words.Command.TheVariants.{Try}
+use Rattle.facechange_cli.specs.declared.words.Command.TheVariants.{Try, Drive}
+use Rattle.trace_file.specs.Trace.{Told, text_of}
 use Rattle.facechange_cli.specs.Alone.{IsRunOf}
+use Rattle.facechange_cli.specs.Driven.{IsDriven}
+use Rattle.facechange_cli.specs.Log.{log_text}
 
 -- how a command ended whose run ended so
 abbrev pub ended_of : End → Ended
@@ -36,16 +38,29 @@ pub record IsTrial (c : Config) (p : Product) : Type 0 where
   pub files : p.files ≡ file_of 5 log ∷ []
   pub ended : p.ended ≡ ended_of end
 
+-- the run of this configuration by this script: the text of its trace goes to the file of word 5, the lines of the trace's
+-- entries to that of word 6, and the console to standard output
+pub record IsDrive (c : Config) (script : List ℕ) (p : Product) : Type 0 where
+  pub lawful : IsConfig c
+  pub trace : Told
+  pub driven : IsDriven c script trace p.out
+  pub files : p.files ≡ file_of 5 (text_of trace) ∷ file_of 6 (log_text c.image c.views trace.entries) ∷ []
+  pub ended : p.ended ≡ ended_of trace.end
+
 -- the places of the input files and of the output files in the words
 abbrev pub inputs_of : Command → List ℕ
 inputs_of (Try setup) = 1 ∷ 2 ∷ []
+inputs_of Drive = 1 ∷ 2 ∷ 3 ∷ 4 ∷ []
 
 abbrev pub outputs_of : Command → List ℕ
 outputs_of (Try setup) = 5 ∷ []
+outputs_of Drive = 5 ∷ 6 ∷ []
 
 -- what each command promises of its files
 abbrev pub promise_of : Command → Promise
 promise_of (Try setup) = takes_image 1 (λ image. takes_views 2 image (λ views. makes (IsTrial (record { image = image; setup = setup; views = views })) (λ why. ⊥)))
+promise_of Drive = takes_image 1 (λ image. takes_setup 2 image (λ setup. takes_views 3 image (λ views. takes_script 4 setup.vcpus (λ script.
+    makes (IsDrive (record { image = image; setup = setup; views = views }) script) (λ why. ⊥)))))
 
 -- what a command promises
 abbrev pub request_of : List (List ℕ) → Command → Request
@@ -53,3 +68,6 @@ request_of words command = record { words = words; inputs = inputs_of command; o
 
 abbrev pub try_request : List (List ℕ) → Setup → Request
 try_request words setup = request_of words (Try setup)
+
+abbrev pub drive_request : List (List ℕ) → Request
+drive_request words = request_of words Drive

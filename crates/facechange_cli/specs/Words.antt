@@ -1,12 +1,12 @@
--- What the words `try IMAGE VIEWS APP STEPS LOG` ask for.
--- The form is this project's own: APP is a name of an app, STEPS a decimal number of 1 to 16,777,216.
+-- What the words of a command ask for: `try IMAGE VIEWS APP STEPS LOG`, `drive IMAGE SETUP VIEWS SCRIPT TRACE LOG`.
+-- The forms are this project's own: APP is a name of an app, STEPS a decimal number of 1 to 16,777,216.
 use Rattle.std.specs.Prelude.{◌≡◌, ℕ, ◌≤◌, ◌&&◌, nat_le, Bool, true, false, List, [], ◌∷◌, codes, decimal}
 use Rattle.fc_numbers.specs.Names.{is_app_name}
 use Rattle.guest_input.specs.declared.limits.TheConstants.{STEPS_MOST}
 use Rattle.guest_input.specs.declared.setup.Setup.{Setup}
 use Rattle.facechange_cli.specs.Setups.{setup_for}
 use Rattle.facechange_cli.specs.declared.words.Command.{Command}
-use Rattle.facechange_cli.specs.declared.words.Command.TheVariants.{Try}
+use Rattle.facechange_cli.specs.declared.words.Command.TheVariants.{Try, Drive}
 
 -- the word begins with a digit that is not 0
 abbrev pub is_plain : List ℕ → Bool
@@ -26,9 +26,20 @@ pub record IsTry (words : List (List ℕ)) (asked : Setup) : Type 0 where
   pub most : steps ≤ STEPS_MOST
   pub setup : asked ≡ setup_for app steps
 
+-- the words ask for a run by the files of a setup and a script
+pub record IsDriveForm (words : List (List ℕ)) : Type 0 where
+  pub image : List ℕ
+  pub setup : List ℕ
+  pub views : List ℕ
+  pub script : List ℕ
+  pub trace : List ℕ
+  pub log : List ℕ
+  pub form : words ≡ codes "drive" ∷ image ∷ setup ∷ views ∷ script ∷ trace ∷ log ∷ []
+
 -- the words are this command's form
 abbrev pub IsForm : List (List ℕ) → Command → Type 0
 IsForm words (Try setup) = IsTry words setup
+IsForm words Drive = IsDriveForm words
 
 -- the words are no listed form
 abbrev pub IsNoForm : List (List ℕ) → Type 0

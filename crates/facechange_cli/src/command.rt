@@ -9,6 +9,7 @@ ghost use Rattle.facechange_cli.specs.Words.{IsForm};
 ghost use Rattle.facechange_cli.specs.Requests.{request_of};
 ghost use Rattle.facechange_cli.specs.Top.{Answers};
 
+use crate::drive::make_drive;
 use crate::trial::make_trial;
 use crate::words::{Command, command_of};
 use command_frame::finish::finish;
@@ -33,12 +34,15 @@ fn make<S: Store>(
 {
     match command {
         Command::Try(setup) => make_trial(alloc, words, setup, store),
+        Command::Drive => make_drive(alloc, words, store),
     }
 }
 
 /// Does what the words ask for, and answers the status with which the program ends. Where it is not 0, a line on `err`
 /// says why. `try IMAGE VIEWS APP STEPS LOG` runs a kernel on one vCPU under the view of an app, writes a line to LOG
 /// for each missing function that it reached, and what the guest wrote to `out`.
+/// `drive IMAGE SETUP VIEWS SCRIPT TRACE LOG` runs a kernel on several vCPUs in the order of a script, and writes the trace
+/// of the run, its log, and what the guest wrote to `out`.
 pub fn face_change_still<S: Store, K: Sink, E: Sink>(
     alloc: Global,
     words: &[String],

@@ -2,8 +2,10 @@
 //!
 //! - [`words`]: what the words of a command ask for.
 //! - [`setup`]: the setup of `try`.
-//! - [`alone`]: the run of one vCPU under the view of its app, to its end.
-//! - [`trial`]: what `try` makes.
+//! - [`engine`]: the events of a run, to its end; [`log`]: the text of a log.
+//! - [`alone`]: the run of one vCPU under the view of its app, to its end; [`trial`]: what `try` makes.
+//! - [`driven`]: the run of several vCPUs by a script, to its end, and its trace; [`drive`]: what `drive` makes.
+//! - [`products`]: what the commands that run a guest make of its end and of its files.
 //! - [`command`]: the top call.
 //! - [`laws`]: that each cause has its answer.
 //!
@@ -21,9 +23,14 @@
 
 pub mod alone;
 pub mod command;
+pub mod drive;
+pub mod driven;
+pub mod engine;
 #[cfg(test)]
 mod kernels;
 pub mod laws;
+pub mod log;
+pub mod products;
 #[cfg(test)]
 mod programs;
 pub mod setup;

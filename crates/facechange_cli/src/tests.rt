@@ -19,7 +19,7 @@ use std::test::Fail;
 const TRY: [&str; 6] = ["try", "image", "views", "sh", "100", "log"];
 
 /// Adds the digits of these instructions.
-fn add(digits: &mut String, text: &[&str]) -> Result<(), Fail> {
+pub(crate) fn add(digits: &mut String, text: &[&str]) -> Result<(), Fail> {
     for piece in text {
         digits.push_str(piece)?;
     }
@@ -27,7 +27,7 @@ fn add(digits: &mut String, text: &[&str]) -> Result<(), Fail> {
 }
 
 /// A plain image at 0x80000000 with this text and these further members.
-fn image_of(alloc: Global, text: &str, more: &str) -> Result<String, Fail> {
+pub(crate) fn image_of(alloc: Global, text: &str, more: &str) -> Result<String, Fail> {
     Ok(format!(in alloc; "{{\"base\":2147483648,\"entry\":2147483648,\"text\":\"{text}\"{more}}}")?)
 }
 
@@ -48,7 +48,12 @@ fn digest_of(alloc: Global, image: &[u8]) -> Result<String, Fail> {
 }
 
 /// Views for the image.
-fn views_of(alloc: Global, image: &[u8], shared: &str, apps: &str) -> Result<String, Fail> {
+pub(crate) fn views_of(
+    alloc: Global,
+    image: &[u8],
+    shared: &str,
+    apps: &str,
+) -> Result<String, Fail> {
     let digest = digest_of(alloc, image)?;
     Ok(format!(in alloc;
         "{{\"version\":1,\"text\":\"{digest}\",\"shared\":[{shared}],\"apps\":[{apps}]}}"

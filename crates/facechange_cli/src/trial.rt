@@ -1,17 +1,15 @@
 //! What `try` makes: the console of the full kernel's run, and the log of what its view missed.
 
-ghost use Rattle.std.specs.Prelude.{◌≡◌, [], ◌∷◌, ℕ, List, Option, Some, IfOk, map, string_bytes};
+ghost use Rattle.std.specs.Prelude.{◌≡◌, ℕ, List, Option, Some, map, string_bytes};
 ghost use Rattle.command_frame.specs.Promise.{Told};
 ghost use Rattle.command_frame.specs.Command.{MakeSaid, MakeCounts, HasOutputs};
 ghost use Rattle.facechange_cli.specs.Setups.{IsAlone};
-ghost use Rattle.facechange_cli.specs.Requests.{ended_of, file_of, try_request};
+ghost use Rattle.facechange_cli.specs.Requests.{try_request};
 
 use crate::alone::run_alone;
-use command_frame::answer::Ended;
+use crate::products::{ended_of, one_file};
 use command_frame::inputs::{take_image, take_views};
-use command_frame::product::{Product, Refusal, Written};
-use fc_numbers::machine::End;
-use fc_numbers::memory::NoMemory;
+use command_frame::product::{Product, Refusal};
 use fc_outside::outside::Store;
 use function_table::table::Table;
 use guest_input::setup::Setup;
@@ -24,28 +22,6 @@ const IMAGE: usize = 1;
 const VIEWS: usize = 2;
 
 const LOG: usize = 5;
-
-/// How a command ends whose run ended so.
-fn ended_of(end: End) -> Ended
-    ensures { result ≡ ended_of end }
-{
-    match end {
-        End::Spent | End::Shutdown => Ended::Finished,
-        End::Stopped(stop) => Ended::Stopped(stop),
-    }
-}
-
-/// The one output file, that the word at this place names.
-fn one_file(alloc: Global, word: usize, bytes: Vec<u8>) -> Result<Items<Written>, NoMemory>
-    ensures { IfOk result (λ files. files ≡ file_of word bytes.items ∷ []) }
-{
-    let mut files = Items::new(alloc);
-    files.push(Written {
-        word,
-        bytes: Items::from_vec(bytes),
-    })?;
-    Ok(files)
-}
 
 /// Runs the image by the setup, under the views. The log goes to its file, and the console to standard output.
 pub(crate) fn make_trial<S: Store>(

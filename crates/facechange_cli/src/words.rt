@@ -1,11 +1,11 @@
 //! What the words of a command ask for.
 
-ghost use Rattle.std.specs.Prelude.{◌≡◌, ◌≤◌, ℕ, decimal, string_bytes, map, IfSome, IfNone};
+ghost use Rattle.std.specs.Prelude.{◌≡◌, ◌≤◌, ℕ, true, false, decimal, string_bytes, map, IfSome, IfNone};
 ghost use Rattle.fc_numbers.specs.Names.{is_app_name};
 ghost use Rattle.guest_input.specs.declared.setup.Setup.{Setup};
 ghost use Rattle.guest_input.specs.declared.limits.TheConstants.{STEPS_MOST};
 ghost use Rattle.facechange_cli.specs.Setups.{setup_for};
-ghost use Rattle.facechange_cli.specs.Words.{IsTry, IsForm, IsNoForm, is_plain};
+ghost use Rattle.facechange_cli.specs.Words.{IsTry, IsDriveForm, IsForm, IsNoForm, is_plain};
 
 use crate::setup::setup_for;
 use fc_numbers::name::Name;
@@ -18,6 +18,9 @@ use std::alloc::Global;
 pub enum Command {
     /// `try IMAGE VIEWS APP STEPS LOG`: to run the image under the views by this setup, and to write the log.
     Try(Setup),
+    /// `drive IMAGE SETUP VIEWS SCRIPT TRACE LOG`: to run the image by the setup, under the views, in the order of the script,
+    /// and to write the trace and the log.
+    Drive,
 }
 
 /// Whether the word begins with a digit that is not 0.
@@ -60,12 +63,26 @@ fn try_of(alloc: Global, words: &[String]) -> Option<Setup>
     Some(setup_for(alloc, app, steps))
 }
 
+/// Whether the words are of the form of `drive`.
+fn is_drive(words: &[String]) -> bool
+    ensures yes { result ≡ true → IsDriveForm (map string_bytes words.now) }
+    ensures no { result ≡ false → IsDriveForm (map string_bytes words.now) → ⊥ }
+{
+    match words {
+        [verb, _, _, _, _, _, _] => verb.as_str() == "drive",
+        _ => false,
+    }
+}
+
 /// The form that the words are of, or None exactly where they are of no listed one.
 #[tactic(auto, using(crate::proofs::Forms::no_form))]
 pub fn command_of(alloc: Global, words: &[String]) -> Option<Command>
     ensures some { IfSome result (λ command. IsForm (map string_bytes words.now) command) }
     ensures none { IfNone result (IsNoForm (map string_bytes words.now)) }
 {
+    if is_drive(words) {
+        return Some(Command::Drive);
+    }
     let setup = try_of(alloc, words)?;
     Some(Command::Try(setup))
 }
