@@ -12,11 +12,11 @@ const SP: u8 = 2;
 
 const TP: u8 = 4;
 
-const T0: u8 = 5;
+const TEMPORARY_0: u8 = 5;
 
-const T1: u8 = 6;
+const TEMPORARY_1: u8 = 6;
 
-const T2: u8 = 7;
+const TEMPORARY_2: u8 = 7;
 
 const S0: u8 = 8;
 
@@ -48,44 +48,47 @@ pub(crate) const BOOT: [Line; 25] = [
         imm: 0x10_0000,
     }),
     Line::Plain(Inst::Slli {
-        rd: T0,
+        rd: TEMPORARY_0,
         rs1: A0,
         imm: 18,
     }),
     Line::Plain(Inst::Add {
         rd: TP,
         rs1: TP,
-        rs2: T0,
+        rs2: TEMPORARY_0,
     }),
-    Line::Plain(Inst::Auipc { rd: T1, imm: 0 }),
+    Line::Plain(Inst::Auipc {
+        rd: TEMPORARY_1,
+        imm: 0,
+    }),
     Line::AddDistance {
-        rd: T1,
-        rs1: T1,
+        rd: TEMPORARY_1,
+        rs1: TEMPORARY_1,
         to: Label::Trap,
     },
     Line::Plain(Inst::Csrrw {
         rd: ZERO,
-        rs1: T1,
+        rs1: TEMPORARY_1,
         csr: STVEC,
     }),
     Line::Plain(Inst::Addi {
-        rd: T1,
+        rd: TEMPORARY_1,
         rs1: ZERO,
         imm: 32,
     }),
     Line::Plain(Inst::Csrrw {
         rd: ZERO,
-        rs1: T1,
+        rs1: TEMPORARY_1,
         csr: SIE,
     }),
     Line::Plain(Inst::Lui {
-        rd: T1,
+        rd: TEMPORARY_1,
         imm: 0x1_0000,
     }),
     Line::Plain(Inst::Add {
         rd: SP,
         rs1: TP,
-        rs2: T1,
+        rs2: TEMPORARY_1,
     }),
     Line::Plain(Inst::Addi {
         rd: S0,
@@ -93,28 +96,31 @@ pub(crate) const BOOT: [Line; 25] = [
         imm: 0,
     }),
     Line::Plain(Inst::Lui {
-        rd: T1,
+        rd: TEMPORARY_1,
         imm: 0x2_0000,
     }),
     Line::Plain(Inst::Add {
-        rd: T1,
+        rd: TEMPORARY_1,
         rs1: TP,
-        rs2: T1,
+        rs2: TEMPORARY_1,
     }),
     Line::Plain(Inst::Sd {
         rs1: TP,
-        rs2: T1,
+        rs2: TEMPORARY_1,
         imm: 64,
     }),
-    Line::Plain(Inst::Auipc { rd: T2, imm: 0 }),
+    Line::Plain(Inst::Auipc {
+        rd: TEMPORARY_2,
+        imm: 0,
+    }),
     Line::AddDistance {
-        rd: T2,
-        rs1: T2,
+        rd: TEMPORARY_2,
+        rs1: TEMPORARY_2,
         to: Label::Blue,
     },
     Line::Plain(Inst::Sd {
         rs1: TP,
-        rs2: T2,
+        rs2: TEMPORARY_2,
         imm: 72,
     }),
     Line::Plain(Inst::Csrrs {
@@ -162,7 +168,7 @@ pub(crate) const TRAP: [Line; 22] = [
     }),
     Line::Plain(Inst::Sd {
         rs1: SP,
-        rs2: T0,
+        rs2: TEMPORARY_0,
         imm: 0,
     }),
     Line::Plain(Inst::Sd {
@@ -186,18 +192,18 @@ pub(crate) const TRAP: [Line; 22] = [
         imm: 32,
     }),
     Line::Plain(Inst::Ld {
-        rd: T0,
+        rd: TEMPORARY_0,
         rs1: TP,
         imm: 128,
     }),
     Line::Plain(Inst::Addi {
-        rd: T0,
-        rs1: T0,
+        rd: TEMPORARY_0,
+        rs1: TEMPORARY_0,
         imm: 1,
     }),
     Line::Plain(Inst::Sd {
         rs1: TP,
-        rs2: T0,
+        rs2: TEMPORARY_0,
         imm: 128,
     }),
     Line::Plain(Inst::Csrrs {
@@ -226,7 +232,7 @@ pub(crate) const TRAP: [Line; 22] = [
     }),
     Line::Plain(Inst::Ecall),
     Line::Plain(Inst::Ld {
-        rd: T0,
+        rd: TEMPORARY_0,
         rs1: SP,
         imm: 0,
     }),
@@ -319,12 +325,12 @@ pub(crate) const RED: [Line; 12] = [
     }),
     Line::Plain(Inst::Ecall),
     Line::Plain(Inst::Ld {
-        rd: T0,
+        rd: TEMPORARY_0,
         rs1: TP,
         imm: 128,
     }),
     Line::BranchIfEqual {
-        rs1: T0,
+        rs1: TEMPORARY_0,
         rs2: ZERO,
         to: Label::Red,
     },
@@ -375,12 +381,12 @@ pub(crate) const BLUE: [Line; 12] = [
     }),
     Line::Plain(Inst::Ecall),
     Line::Plain(Inst::Ld {
-        rd: T0,
+        rd: TEMPORARY_0,
         rs1: TP,
         imm: 128,
     }),
     Line::BranchIfEqual {
-        rs1: T0,
+        rs1: TEMPORARY_0,
         rs2: ZERO,
         to: Label::Blue,
     },
