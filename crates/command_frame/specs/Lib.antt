@@ -2,6 +2,7 @@ pub mod Lines
 pub mod Faults
 pub mod Answers
 pub mod Files
+pub mod Products
 pub mod Promise
 pub mod Taken
 pub mod Finished

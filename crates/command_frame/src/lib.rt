@@ -2,7 +2,7 @@
 //!
 //! - [`inputs`]: the files that a command takes, one after another.
 //! - [`fault`]: why a file is refused.
-//! - [`product`]: what a command makes, or why it makes nothing.
+//! - [`product`]: what a command makes, or why it makes nothing; [`products`]: its files, and its end by that of a run.
 //! - [`finish`]: the writing of a product.
 //! - [`answer`]: what a command comes to.
 //! - [`status`]: how the program ends.
@@ -25,6 +25,7 @@ pub mod inputs;
 pub mod laws;
 pub mod line;
 pub mod product;
+pub mod products;
 pub mod status;
 #[cfg(test)]
 mod tests;

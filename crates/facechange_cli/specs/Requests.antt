@@ -2,14 +2,11 @@
 -- The rule: the input files in their order, and a relation of what is made of them.
 use Rattle.std.specs.Prelude.{◌≡◌, ℕ, List, [], ◌∷◌}
 use Rattle.fc_numbers.specs.declared.machine.End.{End}
-use Rattle.fc_numbers.specs.declared.machine.End.TheVariants as end
 use Rattle.guest_input.specs.declared.setup.Setup.{Setup}
 use Rattle.view_file.specs.declared.views.Views.{Views}
 use Rattle.run_evidence.specs.Config.{Config, IsConfig}
 use Rattle.command_frame.specs.Promise.{Promise, Request, takes_image, takes_setup, takes_views, takes_script, makes}
-use Rattle.command_frame.specs.declared.answer.Ended.{Ended}
-use Rattle.command_frame.specs.declared.answer.Ended.TheVariants.{Finished, Stopped}
-use Rattle.command_frame.specs.declared.product.Written.{Written}
+use Rattle.command_frame.specs.Products.{ended_of, file_of}
 use Rattle.command_frame.specs.declared.product.Product.{Product}
 use Rattle.facechange_cli.specs.declared.words.Command.{Command}
 use Rattle.facechange_cli.specs.declared.words.Command.TheVariants.{Try, Drive}
@@ -17,16 +14,6 @@ use Rattle.trace_file.specs.Trace.{Told, text_of}
 use Rattle.facechange_cli.specs.Alone.{IsRunOf}
 use Rattle.facechange_cli.specs.Driven.{IsDriven}
 use Rattle.facechange_cli.specs.Log.{log_text}
-
--- how a command ended whose run ended so
-abbrev pub ended_of : End → Ended
-ended_of end.Spent = Finished
-ended_of end.Shutdown = Finished
-ended_of (end.Stopped stop) = Stopped stop
-
--- the file that the word at a place names, with these bytes
-abbrev pub file_of : ℕ → List ℕ → Written
-file_of word bytes = record { word = word; bytes = bytes }
 
 -- the full kernel's run of this configuration: its console goes to standard output, and its log to the file of word 5
 pub record IsTrial (c : Config) (p : Product) : Type 0 where

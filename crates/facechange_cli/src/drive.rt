@@ -7,9 +7,9 @@ ghost use Rattle.facechange_cli.specs.Requests.{drive_request};
 
 use crate::driven::drive;
 use crate::log::log_text;
-use crate::products::{ended_of, two_files};
 use command_frame::inputs::{take_image, take_script, take_setup, take_views};
 use command_frame::product::{Product, Refusal};
+use command_frame::products::{ended_of, two_files};
 use fc_outside::outside::Store;
 use function_table::table::Table;
 use sqlite_items::Items;

@@ -5,7 +5,6 @@
 //! - [`engine`]: the events of a run, to its end; [`log`]: the text of a log.
 //! - [`alone`]: the run of one vCPU under the view of its app, to its end; [`trial`]: what `try` makes.
 //! - [`driven`]: the run of several vCPUs by a script, to its end, and its trace; [`drive`]: what `drive` makes.
-//! - [`products`]: what the commands that run a guest make of its end and of its files.
 //! - [`command`]: the top call.
 //! - [`laws`]: that each cause has its answer.
 //!
@@ -30,7 +29,6 @@ pub mod engine;
 mod kernels;
 pub mod laws;
 pub mod log;
-pub mod products;
 #[cfg(test)]
 mod programs;
 pub mod setup;

@@ -7,9 +7,9 @@ ghost use Rattle.facechange_cli.specs.Setups.{IsAlone};
 ghost use Rattle.facechange_cli.specs.Requests.{try_request};
 
 use crate::alone::run_alone;
-use crate::products::{ended_of, one_file};
 use command_frame::inputs::{take_image, take_views};
 use command_frame::product::{Product, Refusal};
+use command_frame::products::{ended_of, one_file};
 use fc_outside::outside::Store;
 use function_table::table::Table;
 use guest_input::setup::Setup;

@@ -6,7 +6,7 @@ use Rattle.run_evidence.specs.Config.{Config, IsConfig}
 use Rattle.trace_file.specs.Trace.{told, text_of}
 use Rattle.facechange_cli.specs.Driven.{IsDriven}
 use Rattle.facechange_cli.specs.Log.{log_text}
-use Rattle.facechange_cli.specs.Requests.{file_of}
+use Rattle.command_frame.specs.Products.{file_of}
 use Rattle.facechange_cli.proofs.Printed.{printed}
 use Rattle.facechange_cli.proofs.Refusals.{third-refused, fourth-refused}
 use Rattle.facechange_cli.proofs.drive.make_drive.Goals as goal

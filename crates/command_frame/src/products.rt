@@ -1,17 +1,17 @@
-//! What the commands that run a guest make of its end, of its log and of its trace.
+//! What commands make of the end of a run, and of bytes that are to be a file.
 
 ghost use Rattle.std.specs.Prelude.{◌≡◌, [], ◌∷◌, IfOk};
-ghost use Rattle.facechange_cli.specs.Requests.{ended_of, file_of};
+ghost use Rattle.command_frame.specs.Products.{ended_of, file_of};
 
-use command_frame::answer::Ended;
-use command_frame::product::Written;
+use crate::answer::Ended;
+use crate::product::Written;
 use fc_numbers::machine::End;
 use fc_numbers::memory::NoMemory;
 use sqlite_items::Items;
 use std::alloc::Global;
 
 /// How a command ends whose run ended so.
-pub(crate) fn ended_of(end: End) -> Ended
+pub fn ended_of(end: End) -> Ended
     ensures { result ≡ ended_of end }
 {
     match end {
@@ -31,7 +31,7 @@ fn file_of(word: usize, bytes: Vec<u8>) -> Written
 }
 
 /// One output file, that the word at this place names.
-pub(crate) fn one_file(
+pub fn one_file(
     alloc: Global,
     word: usize,
     bytes: Vec<u8>,
@@ -44,7 +44,7 @@ pub(crate) fn one_file(
 }
 
 /// Two output files, in the order in which they are written, that the words at these places name.
-pub(crate) fn two_files(
+pub fn two_files(
     alloc: Global,
     first: (usize, Vec<u8>),
     second: (usize, Vec<u8>),
