@@ -1,9 +1,5 @@
 pub mod Setups
 pub mod Words
-pub mod Log
-pub mod Engine
-pub mod Alone
-pub mod Driven
 pub mod Requests
 pub mod Top
 pub mod Served

@@ -11,9 +11,9 @@ use Rattle.command_frame.specs.declared.product.Product.{Product}
 use Rattle.facechange_cli.specs.declared.words.Command.{Command}
 use Rattle.facechange_cli.specs.declared.words.Command.TheVariants.{Try, Drive}
 use Rattle.trace_file.specs.Trace.{Told, text_of}
-use Rattle.facechange_cli.specs.Alone.{IsRunOf}
-use Rattle.facechange_cli.specs.Driven.{IsDriven}
-use Rattle.facechange_cli.specs.Log.{log_text}
+use Rattle.guest_runs.specs.Alone.{IsRunOf}
+use Rattle.guest_runs.specs.Driven.{IsDriven}
+use Rattle.guest_runs.specs.Log.{log_text}
 
 -- the full kernel's run of this configuration: its console goes to standard output, and its log to the file of word 5
 pub record IsTrial (c : Config) (p : Product) : Type 0 where

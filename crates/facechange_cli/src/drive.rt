@@ -5,13 +5,14 @@ ghost use Rattle.command_frame.specs.Promise.{Told};
 ghost use Rattle.command_frame.specs.Command.{MakeSaid, MakeCounts, HasOutputs};
 ghost use Rattle.facechange_cli.specs.Requests.{drive_request};
 
-use crate::driven::drive;
-use crate::log::log_text;
 use command_frame::inputs::{take_image, take_script, take_setup, take_views};
 use command_frame::product::{Product, Refusal};
 use command_frame::products::{ended_of, two_files};
 use fc_outside::outside::Store;
 use function_table::table::Table;
+use guest_runs::driven::drive;
+use guest_runs::laws::justified_entries_are_printable;
+use guest_runs::log::log_text;
 use sqlite_items::Items;
 use std::alloc::Global;
 use trace_file::writing::write_trace;
@@ -42,6 +43,7 @@ pub(crate) fn make_drive<S: Store>(
     ensures files { S.files store.new ≡ S.files store.old }
     ensures writes { S.writes store.new ≡ S.writes store.old }
 {
+    justified_entries_are_printable();
     let image = take_image(alloc, store, words, IMAGE)?;
     let table = Table::of(alloc, &image)?;
     let setup = take_setup(alloc, store, words, SETUP, &image)?;

@@ -1,10 +1,8 @@
 //! The commands of the monitor: from words and files to a console, a log, and a status.
 //!
 //! - [`words`]: what the words of a command ask for.
-//! - [`setup`]: the setup of `try`.
-//! - [`engine`]: the events of a run, to its end; [`log`]: the text of a log.
-//! - [`alone`]: the run of one vCPU under the view of its app, to its end; [`trial`]: what `try` makes.
-//! - [`driven`]: the run of several vCPUs by a script, to its end, and its trace; [`drive`]: what `drive` makes.
+//! - [`setup`]: the setup of `try`; [`trial`]: what `try` makes.
+//! - [`drive`]: what `drive` makes.
 //! - [`command`]: the top call.
 //! - [`laws`]: that each cause has its answer.
 //!
@@ -17,24 +15,12 @@
 //! its promise; a function as in [`trial`], which takes the files and makes the product; an arm for it in [`command`]; and
 //! a line in `proofs/Served.antt`, that its files are sure. Writing, line and status are the frame's.
 //!
-//! Below stand the frame of commands and the core; above, `main`, which has the real files and streams.
+//! Below stand the frame of commands and the runs of guests; above, `main`, which has the real files and streams.
 #![tactic(auto)]
 
-pub mod alone;
 pub mod command;
 pub mod drive;
-pub mod driven;
-pub mod engine;
-#[cfg(test)]
-mod kernels;
 pub mod laws;
-pub mod log;
-#[cfg(test)]
-mod programs;
 pub mod setup;
-#[cfg(test)]
-mod tables;
-#[cfg(test)]
-mod tests;
 pub mod trial;
 pub mod words;

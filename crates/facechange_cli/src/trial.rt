@@ -6,13 +6,13 @@ ghost use Rattle.command_frame.specs.Command.{MakeSaid, MakeCounts, HasOutputs};
 ghost use Rattle.facechange_cli.specs.Setups.{IsAlone};
 ghost use Rattle.facechange_cli.specs.Requests.{try_request};
 
-use crate::alone::run_alone;
 use command_frame::inputs::{take_image, take_views};
 use command_frame::product::{Product, Refusal};
 use command_frame::products::{ended_of, one_file};
 use fc_outside::outside::Store;
 use function_table::table::Table;
 use guest_input::setup::Setup;
+use guest_runs::alone::run_alone;
 use sqlite_items::Items;
 use std::alloc::Global;
 

@@ -4,10 +4,9 @@ use Rattle.std.proofs.lemmas.Result.{err_from_is_err_and}
 use Rattle.function_table.specs.Groups.{groups_of}
 use Rattle.run_evidence.specs.Config.{Config, IsConfig}
 use Rattle.trace_file.specs.Trace.{told, text_of}
-use Rattle.facechange_cli.specs.Driven.{IsDriven}
-use Rattle.facechange_cli.specs.Log.{log_text}
+use Rattle.guest_runs.specs.Driven.{IsDriven}
+use Rattle.guest_runs.specs.Log.{log_text}
 use Rattle.command_frame.specs.Products.{file_of}
-use Rattle.facechange_cli.proofs.Printed.{printed}
 use Rattle.facechange_cli.proofs.Refusals.{third-refused, fourth-refused}
 use Rattle.facechange_cli.proofs.drive.make_drive.Goals as goal
 
@@ -33,7 +32,7 @@ log_text-requires-clause-entries g c =
     let config : Config = record { image = c.in_ok-image.image; setup = c.in_ok-setup.setup; views = c.in_ok-views.views } in
     let ok : IsConfig config = record { image = c.in_ok-image.ensures.lawful; setup = c.in_ok-setup.ensures.lawful; views = c.in_ok-views.ensures.lawful } in
     let table : c.in_ok-table.table ≡ groups_of c.in_ok-image.image = search rules in
-    rw (c.deref-2.ensures.value, table) (printed config ok (told c.in_ok-driven.driven.trace).schedule (told c.in_ok-driven.driven.trace).entries c.in_ok-driven.ensures.sound.justified)
+    rw (c.deref-2.ensures.value, table) (c.justified_entries_are_printable.ensures config ok (told c.in_ok-driven.driven.trace).schedule (told c.in_ok-driven.driven.trace).entries c.in_ok-driven.ensures.sound.justified)
 
 pub returns-clause-said : goal.returns-clause-said
 returns-clause-said g c = λ at told-at.

@@ -1,7 +1,0 @@
-use Rattle.std.proofs.Common.{◌≡◌}
-use Rattle.std.specs.Prelude.{take}
-use Rattle.facechange_cli.specs.Log.{log_text}
-use Rattle.facechange_cli.proofs.log.log_text.Given as goal
-
-abbrev pub invariant-loop-entry : goal.invariant-loop-entry
-invariant-loop-entry l = l.text.items ≡ log_text l.image l.views (take l.entry-index l.entries)

@@ -1,0 +1,6 @@
+pub mod Printed
+pub mod Events
+pub mod Rounds
+pub mod Ended
+pub mod Lone
+pub mod Drives

@@ -1,0 +1,4 @@
+pub mod Log
+pub mod Engine
+pub mod Alone
+pub mod Driven
