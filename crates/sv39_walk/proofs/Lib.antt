@@ -5,3 +5,4 @@ pub mod Fitting
 pub mod Noted
 pub mod ByPage
 pub mod LowBits
+mod TestStores

@@ -1,11 +1,16 @@
 //! Walks over tables made by hand.
 
-ghost use Rattle.std.specs.Prelude.{◌≡◌, IfOk, length};
+ghost use Rattle.std.specs.Prelude.{◌≡◌, ◌+◌, ◌∷◌, [], ℕ, IfOk, length};
+ghost use Rattle.guest_ram.specs.Ram.{AreStampsBelow};
+ghost use Rattle.sv39_walk.specs.Cache.{Fits, KeepsFits};
 
 use super::*;
+use crate::cache::WalkCache;
+use crate::laws::{new_caches_fit, stores_keep_fits};
 use fc_numbers::memory::NoMemory;
 use fc_numbers::places::{RAM_START, Span};
 use fc_numbers::spans::Spans;
+use guest_ram::OutsideRam;
 use std::alloc::Global;
 use std::test::Fail;
 
@@ -261,5 +266,105 @@ fn four_levels_are_read_where_satp_has_mode_9(rt: HostRuntime) -> Result<(), Fai
         let got = walk(&ram, satp, Mode::Vs, false, false, Access::Load, Va(va));
         assert_eq!(rt; got, want, "{name}");
     }
+    Ok(())
+}
+
+/// satp of MODE 8 with the page number of the third page of memory.
+const SATP_KEPT: u64 = 0x8000_0000_0008_0002;
+
+/// The place of the leaf entry for the page at 0x80001000.
+const LEAF: u64 = 0x8000_4008;
+
+/// A leaf entry that maps a page to the first page of memory, to be run in supervisor mode.
+const TO_FIRST_PAGE: u64 = 0x8_0000 << 10 | V | X | A | R;
+
+/// The kernel's text: the first page of memory.
+fn first_page() -> Spans
+    ensures { result.items ≡ record { start = RAM_START; end = RAM_START + 4096 } ∷ [] }
+{
+    let mut text = Spans::new();
+    text.push(Span {
+        start: Gpa(RAM_START),
+        end: Gpa(RAM_START + PAGE),
+    });
+    text
+}
+
+/// Memory of 64 KiB in which the pages at 0x80000000 and 0x80001000 both lead to the first page, the text.
+fn memory_of_two_leaves(alloc: Global) -> Result<GuestRam, NoMemory>
+    ensures text { IfOk result (λ ram. ram.text ≡ record { start = RAM_START; end = RAM_START + 4096 } ∷ []) }
+    ensures stamps { IfOk result (λ ram. AreStampsBelow ram 1) }
+{
+    let mut ram = GuestRam::new(alloc, 0x1_0000, first_page())?;
+    ram.place(Gpa(0x8000_2010), &0x2000_0c01_u64.to_le_bytes());
+    ram.place(Gpa(0x8000_3000), &0x2000_1001_u64.to_le_bytes());
+    ram.place(Gpa(0x8000_4000), &TO_FIRST_PAGE.to_le_bytes());
+    ram.place(Gpa(LEAF), &TO_FIRST_PAGE.to_le_bytes());
+    Ok(ram)
+}
+
+/// Stores a leaf entry, as a guest does.
+fn store_leaf(ram: &mut GuestRam, pte: u64) -> Result<(), OutsideRam>
+    requires text { ram.old.text ≡ record { start = RAM_START; end = RAM_START + 4096 } ∷ [] }
+    requires stamps { AreStampsBelow ram.old 100 }
+    ensures fits { KeepsFits ram.old ram.new }
+    ensures text { ram.new.text ≡ ram.old.text }
+    ensures stamps { (n : ℕ) → AreStampsBelow ram.old n → AreStampsBelow ram.new (n + 1) }
+{
+    // The call says that the memory is laid out with its text in it.
+    let _laid = ram.text();
+    stores_keep_fits();
+    ram.store(Gpa(LEAF), Width::Doubleword, pte)
+}
+
+/// The kept translation of an address for a fetch in supervisor mode.
+fn kept(cache: &mut WalkCache, ram: &GuestRam, va: u64) -> Walked
+    requires { Fits ram.now cache.old }
+    ensures { Fits ram.now cache.new }
+{
+    cache.cached_walk(
+        ram,
+        SATP_KEPT,
+        Mode::Vs,
+        false,
+        false,
+        Access::Fetch,
+        Va(va),
+    )
+}
+
+#[test]
+fn kept_translation_follows_each_store_to_its_entry(rt: HostRuntime) -> Result<(), Fail> {
+    let at_text = Walked::At(Gpa(RAM_START));
+    let mut ram = memory_of_two_leaves(rt.alloc())?;
+    new_caches_fit();
+    let mut cache = WalkCache::new();
+    assert_eq!(rt;
+        kept(&mut cache, &ram, 0x8000_1000),
+        at_text,
+        "as it was placed"
+    );
+    assert_eq!(rt;
+        kept(&mut cache, &ram, 0x8000_1000),
+        at_text,
+        "as it is kept"
+    );
+    assert!(rt; store_leaf(&mut ram, 0).is_ok());
+    assert_eq!(rt;
+        kept(&mut cache, &ram, 0x8000_1000),
+        Walked::PageFault,
+        "0 was stored"
+    );
+    assert_eq!(rt;
+        kept(&mut cache, &ram, 0x8000_0000),
+        at_text,
+        "another page of that table"
+    );
+    assert!(rt; store_leaf(&mut ram, TO_FIRST_PAGE).is_ok());
+    assert_eq!(rt;
+        kept(&mut cache, &ram, 0x8000_1000),
+        at_text,
+        "the entry was stored again"
+    );
     Ok(())
 }
