@@ -16,8 +16,12 @@
 //! above, the program.
 #![tactic(auto)]
 
+#[cfg(test)]
+mod kernels;
 pub mod lane;
 pub mod laws;
 pub mod machine;
 mod open;
 pub mod rows;
+#[cfg(test)]
+mod tests;
