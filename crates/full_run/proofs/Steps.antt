@@ -23,7 +23,7 @@ stuck b i over = elim (may b.rules b.state i) as (λ v. (if v then Stepped (next
 after-went : (b : Seat) (i : ℕ) → may b.rules b.state i ≡ true → full_after b i ≡ moved b i (step_of b.rules b.state i)
 after-went b i goes = rw goes refl
 
-more : (schedule : List ℕ) (made : ℕ) → made < length schedule → take (made + 1) schedule ≡ take made schedule ++ slice_index schedule made ∷ []
+pub more : (schedule : List ℕ) (made : ℕ) → made < length schedule → take (made + 1) schedule ≡ take made schedule ++ slice_index schedule made ∷ []
 more schedule made within = rw (add-one made) (take-suc schedule made 0 within)
 
 pub made-more : BoardsMove → LawfulGrows → (c : Config) (schedule : List ℕ) (made i : ℕ) (board next : Seat) → made < length schedule → slice_index schedule made ≡ i
