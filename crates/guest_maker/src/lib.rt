@@ -21,6 +21,8 @@ mod hostile;
 mod line;
 mod program;
 mod programs;
+#[cfg(test)]
+mod tests;
 mod text;
 
 use crate::guest::{guest_setup, hostile_setup, image_of, task_names};
