@@ -2,3 +2,4 @@ pub mod Forms
 pub mod Items
 pub mod Lines
 pub mod Listing
+pub mod Surface
