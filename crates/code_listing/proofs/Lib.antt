@@ -1,0 +1,4 @@
+pub mod FigureLemmas
+pub mod ItemLemmas
+pub mod LineLemmas
+pub mod RangeLemmas
