@@ -130,6 +130,7 @@ module _ (c : Config) where
             L.seen,
             subst (λ (d : Config). IsLawful d r.schedule) (sym L.config) r.sound.lawful,
             subst (λ (d : Config). (k : ℕ) → IsEvidence d r.schedule k (log_in m.0.logs k)) (sym L.config) (λ k. evidence_begins c r.schedule k (log_in m.0.logs k) (log_in r.logs k) (L.logs_seen k) (r.sound.evidence k)),
+            L.counts,
             ap (λ (d : Config). (n, (0, Some (Board (board_of d r.schedule))) ∷ m.1)) (sym L.config),
           )),
           λ miss. absurd (miss hit),

@@ -8,7 +8,7 @@ use Rattle.turn_table.specs.declared.known.Known.{Known}
 use Rattle.turn_table.specs.declared.known.Key.{Key}
 use Rattle.turn_table.specs.declared.known.Guarded.{Guarded}
 use Rattle.turn_table.specs.declared.known.Guarded.TheVariants.{Board, View}
-use Rattle.turn_table.specs.Numbers.{Counts, counts_from, at, least, greatest, grown, alone, without, together}
+use Rattle.turn_table.specs.Numbers.{Counts, counts_from, at, least, greatest, grown, alone, without, times, together}
 use Rattle.turn_table.specs.Sound.{Log, IsEvidence}
 use Rattle.turn_table.specs.Rule.{config_of, logs_of}
 
@@ -48,9 +48,11 @@ own v = least v.counts
 abbrev pub with_board : Known → List ℕ → Known
 with_board v schedule = told v (Some 0) schedule v.logs v.counts
 
--- The board that is taken is that of a lawful schedule, which begins with the schedule seen and justifies the logs seen.
+-- The board that is taken is that of a lawful schedule, which begins with the schedule seen, justifies the logs seen, and
+-- has as many steps of each vCPU that the pass owns as the pass counts.
 abbrev pub TookBoard : Seated → Seated → Type 0
 TookBoard m n = (schedule : List ℕ) × Begins m.0.seen schedule × IsLawful (config_of m.0) schedule × ((v : ℕ) → IsEvidence (config_of m.0) schedule v (log_in m.0.logs v))
+    × ((i steps : ℕ) → at m.0.counts i ≡ Some steps → steps ≡ times i schedule)
     × (n ≡ (with_board m.0 schedule, (0, Some (Board (board_of (config_of m.0) schedule))) ∷ m.1))
 
 abbrev pub tried_board : Step (Option Guarded) → Seated → ℕ → Seated → Type 0

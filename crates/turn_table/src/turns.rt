@@ -7,6 +7,7 @@ ghost use Rattle.run_evidence.specs.Config.{Config, IsLawful};
 ghost use Rattle.run_evidence.specs.Evidence.{log_in};
 ghost use Rattle.run_evidence.specs.Growing.{Begins, IsAllowedFrom, board_of, paged_at, views_count};
 ghost use Rattle.turn_table.specs.declared.known.Guarded.{Guarded};
+ghost use Rattle.turn_table.specs.Numbers.{at, times};
 ghost use Rattle.turn_table.specs.Sound.{IsEvidence, IsSound};
 ghost use Rattle.turn_table.specs.Rule.{AreViews, AreSlots, IsTruthful, config_of, logs_of, slots_of, view_slot};
 ghost use Rattle.turn_table.specs.Steps.{IsConsistent, TookBoard, TookView, after_board, after_view, first_known, greatest_alone, with_board, with_view, without_greatest};
@@ -140,8 +141,9 @@ impl Turns {
         self.table.shared.load::<Look>(&mut pass.seat, 0);
     }
 
-    /// Takes the board, once no other pass has it: the board of a lawful schedule, which begins with the schedule seen
-    /// and justifies the logs seen. Waits, trying again, and may wait for ever.
+    /// Takes the board, once no other pass has it: the board of a lawful schedule, which begins with the schedule seen,
+    /// justifies the logs seen, and has the counted steps of each vCPU that the pass owns. Waits, trying again, and may
+    /// wait for ever.
     pub fn take_board<W: Wait>(&self, rt: &W, pass: &mut Pass) -> Board
         requires same { IsPassOf self.now pass.old }
         requires free { HoldsNothing pass.old }
@@ -151,6 +153,7 @@ impl Turns {
         ensures board { result ≡ board_of (config_of (known pass.old)) result.schedule }
         ensures lawful { IsLawful (config_of (known pass.old)) result.schedule }
         ensures evidence { (v : ℕ) → IsEvidence (config_of (known pass.old)) result.schedule v (log_in (known pass.old).logs v) }
+        ensures counts { (i steps : ℕ) → at (known pass.old).counts i ≡ Some steps → steps ≡ times i result.schedule }
     {
         let shared = &self.table.shared;
         for _ in rt.forever() {

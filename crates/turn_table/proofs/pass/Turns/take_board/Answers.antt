@@ -7,4 +7,4 @@ pub exchange-requires : goal.exchange-requires
 exchange-requires g c =
     let inv = c.loop.invariant in
     let t : TookBoard c.loop.pass.seat.me c.try_board.new.seat.me = rw c.if-try_board.true at c.try_board.ensures.took in
-    (c.try_board.ensures.same ∙ (inv.2 ∙ c.requires.same), (_, took_shape c.try_board.new.seat.me 0 _ _ _ t.4))
+    (c.try_board.ensures.same ∙ (inv.2 ∙ c.requires.same), (_, took_shape c.try_board.new.seat.me 0 _ _ _ t.5))
