@@ -43,9 +43,9 @@ module _ (vcpu : ℕ) where
 
   pub value-found : (k : ℕ) (xs ys : List ℕ) → Some k ≡ first_unequal xs ys → Some (Value vcpu k (slice_index xs k) (slice_index ys k)) ≡ listed 0 xs ys
   value-found k xs ys e =
-    let r : IsFound 0 k xs ys = found-from 0 k xs ys (sym (position_from-zero unequal (zip xs ys)) ∙ sym e) in
-    let is = r.is in let here : r.at ≡ k = omega (arith, is) in
-    ap (λ m. Some (Value vcpu k (slice_index xs m) (slice_index ys m))) (sym here) ∙ sym r.found
+      let r : IsFound 0 k xs ys = found-from 0 k xs ys (sym (position_from-zero unequal (zip xs ys)) ∙ sym e) in
+      let is = r.is in let here : r.at ≡ k = omega (arith, is) in
+      ap (λ m. Some (Value vcpu k (slice_index xs m) (slice_index ys m))) (sym here) ∙ sym r.found
 
   pub value-none : (xs ys : List ℕ) → None ≡ first_unequal xs ys → None ≡ listed 0 xs ys
   value-none xs ys e = sym (none-from 0 xs ys (sym (position_from-zero unequal (zip xs ys)) ∙ sym e))

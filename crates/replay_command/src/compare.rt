@@ -33,8 +33,9 @@ fn vcpu_difference(board: &Board, states: &[State]) -> Option<Comparison>
 {
     for i in 0..board.vcpus() {
         let left = vcpu_state(board, VcpuNo(i));
-        if let Some(difference) = value_difference(i, &left, &states[i as usize]) {
-            return Some(difference);
+        match value_difference(i, &left, &states[i as usize]) {
+            Some(difference) => return Some(difference),
+            None => {}
         }
     }
     None
@@ -61,8 +62,9 @@ pub fn run_difference(board: &Board, made: u32, trace: &Trace) -> Option<Compari
     if ending.differs() {
         return Some(ending);
     }
-    if let Some(value) = vcpu_difference(board, &trace.states) {
-        return Some(value);
+    match vcpu_difference(board, &trace.states) {
+        Some(value) => return Some(value),
+        None => {}
     }
     let memory = Comparison::Memory {
         left: memory_digest(board.ram()),

@@ -60,12 +60,7 @@ pub fn end_name(end: Option<End>) -> &'static str
 }
 
 /// The text of a comparison of numbers.
-fn numbers_text(
-    alloc: Global,
-    what: &str,
-    left: usize,
-    right: usize,
-) -> Result<String, NoMemory>
+fn numbers_text(alloc: Global, what: &str, left: usize, right: usize) -> Result<String, NoMemory>
     ensures { IfOk result (λ text. string_bytes text ≡ shown what.now (decimal left) (decimal right)) }
 {
     Ok(format!(in alloc; "{what} {left} {right}")?)

@@ -12,3 +12,5 @@
 pub mod compare;
 pub mod comparison;
 pub mod replay;
+#[cfg(test)]
+mod tests;

@@ -19,8 +19,8 @@ use command_frame::product::{Product, Refusal};
 use command_frame::products::ended_of;
 use fc_numbers::memory::NoMemory;
 use fc_outside::outside::Store;
-use full_run::laws::{each_has_longest, lawful_is_whole, runs_keep_vcpus};
-use full_run::{Replayed, replay};
+use full_run::laws::{each_has_longest, runs_keep_vcpus};
+use full_run::replay;
 use guest_input::image::Image;
 use guest_input::setup::Setup;
 use sqlite_items::Items;
@@ -66,7 +66,6 @@ fn replayed(alloc: Global, image: &Image, setup: &Setup, trace: &Trace) -> Resul
     ensures { IfOk result (λ p. IsReplay (runs_of image.now setup.now) (told trace.now) p) }
 {
     each_has_longest();
-    lawful_is_whole();
     runs_keep_vcpus();
     let vcpus = Comparison::Vcpus {
         left: setup.vcpus,
@@ -75,13 +74,14 @@ fn replayed(alloc: Global, image: &Image, setup: &Setup, trace: &Trace) -> Resul
     if vcpus.differs() {
         return differing(alloc, &vcpus);
     }
-    let Replayed { board, made } = replay(alloc, image, setup, &trace.schedule)?;
-    if let Some(difference) = run_difference(&board, made, trace) {
-        return differing(alloc, &difference);
+    let ran = replay(alloc, image, setup, &trace.schedule)?;
+    match run_difference(&ran.board, ran.made, trace) {
+        Some(difference) => return differing(alloc, &difference),
+        None => {}
     }
     Ok(Product {
         files: Items::new(alloc),
-        out: Items::from_slice(alloc, board.console())?,
+        out: Items::from_slice(alloc, ran.board.console())?,
         ended: ended_of(trace.end),
     })
 }
