@@ -1,6 +1,14 @@
 -- The words of some items.
 use Rattle.std.proofs.Common.{◌≡◌, ℕ, zero, suc, ◌<◌, List, [], ◌∷◌, length, arith, refl, ◌∙◌, sym, ap, map}
-use Rattle.std.specs.Prelude.{get_or}
+use Rattle.std.specs.Prelude.{get_or, not, Bool, true, false}
+use Rattle.std.specs.Str.{bytes_eq}
+use Rattle.std.proofs.lemmas.Slice.Eq.{bytes_eq-Decides}
+
+-- two texts that a test does not tell apart
+pub text-same : (xs ys : List ℕ) → false ≡ not (bytes_eq xs ys) → xs ≡ ys
+text-same xs ys e =
+    let same : bytes_eq xs ys ≡ true = elim (bytes_eq xs ys) as (λ b. false ≡ not b → b ≡ true) [ true ↦ λ h. refl | false ↦ λ h. h ] e in
+    (bytes_eq-Decides xs ys).0 same
 
 module _ {A : Type 0} (f : A → List ℕ) where
   -- the word of an item
