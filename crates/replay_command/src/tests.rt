@@ -472,7 +472,7 @@ fn files_are_refused_in_their_order(rt: HostRuntime) -> Result<(), Fail> {
         let label = row.trace;
         assert!(rt; came.err.bytes() == row.line, "{label}: line");
         assert_eq!(rt; came.status, row.status, "{label}: status");
-        assert!(rt; came.out.bytes() == b"", "{label}: console");
+        assert!(rt; came.out.bytes().is_empty(), "{label}: console");
     }
     Ok(())
 }
