@@ -1,3 +1,5 @@
 pub mod RoundRobin
 pub mod Profile
 pub mod Tally
+pub mod Seen
+pub mod Turning

@@ -1,16 +1,20 @@
 -- What is kept of a run while it is profiled, and what one step adds.
-use Rattle.std.specs.Prelude.{option_and_then, ◌≡◌, ◌↔◌, ◌⊎◌, ℕ, ◌+◌, ◌<◌, ◌≤◌, ◌==◌, Bool, true, false, if◌then◌else◌, Option, Some, None, List, [], ◌∷◌, ◌++◌, length, slice_index_or, slice_set}
+use Rattle.std.specs.Prelude.{option_and_then, ◌≡◌, ◌↔◌, ◌⊎◌, ℕ, ◌+◌, ◌<◌, ◌≤◌, ◌==◌, Bool, true, false, if◌then◌else◌, Option, Some, None, List, [], ◌∷◌, ◌++◌, length, slice_index_or, slice_set, Result, Ok, Err}
 use Rattle.std.specs.BTreeSet.{BTreeSet}
 use Rattle.std.specs.BTreeSet as sets
 use Rattle.std.specs.List.{IsDistinct, list_any, position}
 use Rattle.std.specs.Str.{bytes_eq}
+use Rattle.fc_numbers.specs.declared.machine.End.{End}
 use Rattle.guest_input.specs.declared.image.Image.{Image}
 use Rattle.guest_input.specs.declared.image.Start.{Start}
 use Rattle.guest_input.specs.Starts.{start_cmp}
 use Rattle.view_file.specs.declared.views.TheConstants.{APPS_MOST}
 use Rattle.guest_board.specs.Board.{State, depth_of, name_of, next_of}
 use Rattle.run_evidence.specs.Config.{Config, full_at}
-use Rattle.profiler.specs.Profile.{IsMet, IsShared, IsUsedUnder, start_of}
+use Rattle.profiler.specs.Profile.{IsOverfull, IsMet, IsShared, IsUsedUnder, start_of}
+use Rattle.profiler.specs.RoundRobin.{IsRoundRobin}
+use Rattle.profiler.specs.declared.profile.ProfileFault.{ProfileFault}
+use Rattle.profiler.specs.declared.profile.ProfileFault.TheVariants.{TooManyApps, NoMemory}
 use Rattle.profiler.specs.declared.tally.Listed.{Listed}
 use Rattle.profiler.specs.declared.tally.Listed.TheVariants.{Shared, Under, Nowhere}
 use Rattle.profiler.specs.declared.tally.Tally.{Tally}
@@ -111,3 +115,9 @@ pub record IsTooMuchAfter (image : Image) (s : State) (i : ℕ) (name : Option (
   pub between : Tally
   pub fetch : AddsFetch image s i t between
   pub many : IsTooMuch between name
+
+-- what a round-robin run comes to: its tally and its end, or too many names
+abbrev pub Runs : Config → Result (Tally × End) ProfileFault → Type 0
+Runs c (Ok ran) = (schedule : List ℕ) × IsRoundRobin c schedule ran.1 × IsTally c schedule ran.0
+Runs c (Err TooManyApps) = IsOverfull c
+Runs c (Err NoMemory) = Unit {0}

@@ -9,5 +9,7 @@
 #![tactic(auto)]
 
 pub mod profile;
+mod run;
+mod seen;
 mod tally;
 mod turns;

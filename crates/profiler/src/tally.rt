@@ -51,7 +51,7 @@ fn is_known(names: &[Name], name: &Name) -> bool
     names.iter().any(|other| other.bytes() == name.bytes())
 }
 
-fn copy_of(name: &Name) -> Name
+pub(crate) fn copy_of(name: &Name) -> Name
     ensures { result ≡ name.now }
 {
     match Name::of(name.bytes()) {
