@@ -11,3 +11,5 @@
 pub mod laws;
 pub mod parts;
 pub mod taken;
+#[cfg(test)]
+mod tests;
