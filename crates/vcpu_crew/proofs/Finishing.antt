@@ -1,5 +1,5 @@
 -- Workers that have made their rounds, and the one pass that theirs become.
-use Rattle.std.proofs.Common.{◌≡◌, ◌≢◌, ℕ, zero, suc, ◌+◌, ◌<◌, ◌≤◌, Bool, true, false, Option, Some, None, List, [], ◌∷◌, ◌++◌, length, get_or, sym, refl, ap, ◌∙◌, subst, arith}
+use Rattle.std.proofs.Common.{◌≡◌, ◌≢◌, ℕ, zero, suc, ◌+◌, ◌<◌, ◌≤◌, Bool, true, false, Option, Some, None, List, [], ◌∷◌, ◌++◌, length, get_or, ◌⊎◌, inl, inr, ⊎_elim, sym, refl, ap, ◌∙◌, subst, arith}
 use Rattle.std.specs.Prelude.{◌&&◌, is_none, nat_lt, slice_index_or}
 use Rattle.std.proofs.lemmas.Bool.Decides.{nat_tests}
 use Rattle.std.proofs.lemmas.List.FromFn.{get_or-map-range_with_len}
@@ -20,7 +20,27 @@ use Rattle.turn_table.specs.Calls.{IsJoined, OwnsAll}
 use Rattle.turn_table.specs.Numbers.{Counts, at, either_count, together}
 use Rattle.turn_table.specs.Rule.{config_of}
 use Rattle.turn_table.specs.Steps.{IsConsistent}
-use Rattle.vcpu_crew.specs.Crew.{HasRun, HasRunAll, HasStopped, IsDoneWith}
+use Rattle.turn_table.specs.declared.pass.Pass.{Pass}
+use Rattle.turn_table.specs.declared.pass.Turns.{Turns}
+use Rattle.turn_table.specs.Passes.{IsPassOf, config_in, known}
+use Rattle.view_file.specs.declared.views.Views.{Views}
+use Rattle.guest_board.specs.declared.seen.Verdict.{Verdict}
+use Rattle.guest_board.specs.declared.seen.Verdict.TheVariants.{Idle, Needs, Zeroes, Goes}
+use Rattle.guest_board.specs.declared.seen.Windows.{Windows}
+use Rattle.guest_board.specs.Seen.{after_verdict, verdict_of}
+use Rattle.vcpu_core.specs.declared.lane.Lane.{Lane}
+use Rattle.vcpu_core.specs.declared.lane.Phase.{Phase}
+use Rattle.vcpu_core.specs.declared.lane.Phase.TheVariants.{Running, Wants, Trapped, Looked}
+use Rattle.vcpu_core.specs.declared.lane.Then.{Then}
+use Rattle.vcpu_core.specs.declared.lane.Then.TheVariants as then
+use Rattle.vcpu_core.specs.Lanes.{after_turn}
+use Rattle.vcpu_core.specs.Turns.{AfterTurns, board_after, lane_after, turns_by, turns_from, verdict_for, windows_for}
+use Rattle.vcpu_core.proofs.Verdicts.{start-busy, verdict-may}
+use Rattle.vcpu_crew.specs.declared.round.Rounded.{Rounded}
+use Rattle.vcpu_crew.specs.declared.round.Rounded.TheVariants.{Went, Over}
+use Rattle.vcpu_crew.specs.declared.round.TheConstants.{TURN_LIMIT}
+use Rattle.vcpu_crew.specs.Round.{HasTurned, IsBetweenRounds, IsRound, answered}
+use Rattle.vcpu_crew.specs.Crew.{HasRun, HasRunAll, HasStopped, IsDoneWith, IsFinished}
 
 together_at : (c d : Counts) (i : ℕ) → length c ≡ length d → at (together c d) i ≡ either_count (at c i) (at d i)
 together_at [] [] i e = refl
@@ -108,3 +128,104 @@ pub has_ended : (c : Config) (v : Known) (b : Seat) → IsConfig c → HasRunAll
 has_ended c v b ok r front lawful is =
     subst (λ (d : Seat). d.state.end ≢ None) (sym is)
     (ended_by c ok b.schedule (idle_all c b.schedule (λ i lt. stop_stays c v.seen b.schedule i (r.done i lt).stopped front lawful)))
+
+-- a turn says Over only where the vCPU may not step
+stuck_by : (v : Verdict) (made : ℕ) (b : Seat) (l : Lane) (later : AfterTurns) (b' : Seat) (l' : Lane) (n : ℕ) → turns_by v made b l later ≡ record { board = b'; lane = l'; answer = record { steps = n; then = then.Over } }
+    → ((v ≡ Idle) × (b ≡ b')) ⊎ (later ≡ record { board = b'; lane = l'; answer = record { steps = n; then = then.Over } })
+stuck_by Idle made b l later b' l' n e = inl (refl, ap (λ (a : AfterTurns). a.board) e)
+stuck_by (Needs k) made b l later b' l' n e = absurd (let z : then.Need ≡ then.Over = ap (λ (a : AfterTurns). a.answer.then) e in cc)
+stuck_by (Zeroes p) made b l later b' l' n e = absurd (let z : then.Zero ≡ then.Over = ap (λ (a : AfterTurns). a.answer.then) e in cc)
+stuck_by (Goes start) made b l later b' l' n e = inr e
+
+by_start_goes : (rules : Rules) (s : State) (i : ℕ) (w : Windows) → verdict_of rules s i w ≡ Idle → may rules s i ≡ false
+by_start_goes rules s i w e =
+    elim (may rules s i) as (λ b. may rules s i ≡ b → may rules s i ≡ false) [
+      | true ↦ λ m. absurd (start-busy s.ram.text w (next_start s i) (sym (verdict-may rules s i w m) ∙ e))
+      | false ↦ λ m. m
+    ] refl
+
+after_idle : (b : Seat) (i : ℕ) → after_verdict b i Idle ≡ b
+unfolding after_verdict
+after_idle b i = refl
+
+after_vcpu : (s : State) (i : ℕ) (l : Lane) (w : Windows) (v : Verdict) → (after_turn s i l w v).vcpu ≡ l.vcpu
+after_vcpu s i l w Idle = refl
+after_vcpu s i l w (Needs n) = refl
+after_vcpu s i l w (Zeroes p) = refl
+after_vcpu s i l w (Goes start) = refl
+
+turn_stops : (views : Views) (made k : ℕ) (b : Seat) (l : Lane) (b' : Seat) (l' : Lane) (n : ℕ) → turns_from views made k b l ≡ record { board = b'; lane = l'; answer = record { steps = n; then = then.Over } }
+    → may b'.rules b'.state l.vcpu ≡ false
+unfolding turns_from
+turn_stops views made zero b l b' l' n e = absurd (let z : then.Limit ≡ then.Over = ap (λ (a : AfterTurns). a.answer.then) e in cc)
+turn_stops views made (suc k) b l b' l' n e =
+    ⊎_elim
+    (λ t.
+        let still : board_after views b l ≡ b = ap (after_verdict b l.vcpu) t.0 ∙ after_idle b l.vcpu in
+        let here : b ≡ b' = sym still ∙ t.1 in
+        subst (λ (d : Seat). may d.rules d.state l.vcpu ≡ false) here (by_start_goes b.rules b.state l.vcpu (windows_for views b l) t.0))
+    (λ t. subst (λ (i : ℕ). may b'.rules b'.state i ≡ false) (after_vcpu b.state l.vcpu l (windows_for views b l) (verdict_for views b l)) (turn_stops views (made + 1) k (board_after views b l) (lane_after views b l) b' l' n t))
+    (stuck_by (verdict_for views b l) made (board_after views b l) (lane_after views b l) (turns_from views (made + 1) k (board_after views b l) (lane_after views b l)) b' l' n e)
+
+over_then : (t : Then) → answered t ≡ Over → t ≡ then.Over
+over_then then.Limit e = absurd (cc)
+over_then then.Need e = absurd (cc)
+over_then then.Zero e = absurd (cc)
+over_then then.Over e = refl
+
+turned_stops : (c : Config) (v : Known) (l : Lane) (v' : Known) (l' : Lane) (answer : Rounded) → answer ≡ Over → HasTurned c v l v' l' answer → HasStopped c v'.seen l.vcpu
+turned_stops c v l v' l' answer over t =
+    let said : t.did.then ≡ then.Over = over_then t.did.then (sym t.answer_is ∙ over) in
+    turn_stops c.views 0 TURN_LIMIT (board_of c t.schedule) l (board_of c v'.seen) l' t.did.steps (t.exact ∙ ap (λ (q : Then). record { board = board_of c v'.seen; lane = l'; answer = record { steps = t.did.steps; then = q } }) said)
+
+round_stops : (c : Config) (v : Known) (l : Lane) (v' : Known) (l' : Lane) (p : Phase) (answer : Rounded) → answer ≡ Over → IsRound c v l p v' l' answer → HasStopped c v'.seen l.vcpu
+round_stops c v l v' l' Running answer over d = turned_stops c v l v' l' answer over d
+round_stops c v l v' l' (Wants n) answer over d = absurd (let z : Went ≡ Over = sym d.1 ∙ over in cc)
+round_stops c v l v' l' (Trapped t) answer over d = absurd (let z : Went ≡ Over = sym d.2 ∙ over in cc)
+round_stops c v l v' l' (Looked k) answer over d = absurd (let z : Went ≡ Over = sym d.1 ∙ over in cc)
+
+pub over_stops : (c : Config) (v : Known) (l : Lane) (v' : Known) (l' : Lane) (answer : Rounded) → answer ≡ Over → l'.vcpu ≡ l.vcpu → IsRound c v l l.phase v' l' answer → HasStopped c v'.seen l'.vcpu
+over_stops c v l v' l' answer over same d = subst (HasStopped c v'.seen) (sym same) (round_stops c v l v' l' l.phase answer over d)
+
+-- a worker after its rounds
+pub worker_finished : (t : Turns) (w w' : Pass × Lane) (v : Known) → IsPassOf t w'.0 → known w'.0 ≡ v → IsBetweenRounds (config_in t) v w'.1 → w'.1.vcpu ≡ w.1.vcpu → HasStopped (config_in t) v.seen w'.1.vcpu → IsConsistent (known w'.0) → IsFinished t w.1.vcpu w'
+worker_finished t w w' v pass is b same stop sure = record {
+  pass = pass;
+  run = subst (λ (x : Known). IsConsistent x → HasRun (config_in t) w.1.vcpu x) (sym is) (λ s. record {
+    config = b.config;
+    free = b.free;
+    consistent = s;
+    done = subst (λ (i : ℕ). IsDoneWith (config_in t) v i) same record { made = _; owned = b.steps; stopped = stop };
+  }) sure;
+}
+
+-- what holds of the pass while others are joined to it
+pub record Joining (t : Turns) (last n : ℕ) (p : Pass) : Type 0 where
+  pub pass : IsPassOf t p
+  pub config : config_of (known p) ≡ config_in t
+  pub free : (known p).holds ≡ None
+  pub consistent : IsConsistent (known p)
+  pub last_done : IsDoneWith (config_in t) (known p) last
+  pub others : (i : ℕ) → i < n → IsDoneWith (config_in t) (known p) i
+
+pub joining_first : (t : Turns) (last : ℕ) (w : Pass × Lane) → IsFinished t last w → Joining t last 0 w.0
+joining_first t last w f = record { pass = f.pass; config = f.run.config; free = f.run.free; consistent = f.run.consistent; last_done = f.run.done; others = λ i lt. absurd (omega arith) }
+
+pub joining_more : (t : Turns) (last n : ℕ) (p p' : Pass) (w : Pass × Lane) → Joining t last n p → IsFinished t n w → IsPassOf t p' → IsJoined (known p) (known w.0) (known p') → Joining t last (n + 1) p'
+joining_more t last n p p' w a f same j =
+    let c : Config = config_in t in record {
+      pass = same;
+      config = joined_config c (known p) (known w.0) (known p') a.config f.run.config a.consistent f.run.consistent j;
+      free = j.free;
+      consistent = j.consistent;
+      last_done = done_left c (known p) (known w.0) (known p') a.config f.run.config a.consistent f.run.consistent j last a.last_done;
+      others = one_more c (known p) (known w.0) (known p') a.config f.run.config a.consistent f.run.consistent j n last a.last_done a.others f.run.done;
+    }
+
+pub joining_all : (t : Turns) (n : ℕ) (p : Pass) → Joining t n n p → HasRunAll (config_in t) (n + 1) (known p)
+joining_all t n p a = record {
+  config = a.config;
+  free = a.free;
+  consistent = a.consistent;
+  done = λ i lt. dite (dec_lt i n) (λ less. a.others i less) (λ more. let e : i ≡ n = omega arith in subst (λ (k : ℕ). IsDoneWith (config_in t) (known p) k) (sym e) a.last_done);
+}

@@ -24,18 +24,31 @@ use Rattle.vcpu_core.specs.declared.lane.Lane.{Lane}
 use Rattle.vcpu_core.specs.declared.lane.Phase.{Phase}
 use Rattle.vcpu_core.specs.declared.lane.Phase.TheVariants.{Running, Wants, Trapped, Looked}
 use Rattle.vcpu_core.specs.declared.lane.Turned.{Turned}
-use Rattle.vcpu_core.specs.Lanes.{fill_row, look_row, mend_row, mend_view}
-use Rattle.vcpu_core.specs.Rows.{AreAllowedSteps, AreOfOthers, FillKeeps, LookKeeps, MendKeeps, IsMended, IsNewEntry, IsPatched}
+use Rattle.vcpu_core.specs.Placed.{IsPlaced}
+use Rattle.vcpu_core.specs.Lanes.{IsLooked, IsTrapped, IsWanting, fill_row, look_row, mend_row, mend_view}
+use Rattle.vcpu_core.specs.Rows.{AreAllowedSteps, AreOfOthers, FillKeeps, TurnsKeep, LookKeeps, MendKeeps, IsMended, IsNewEntry, IsPatched}
 use Rattle.vcpu_core.specs.Truthful.{IsTruthful, IsOfView}
 use Rattle.vcpu_core.specs.Turns.{turns_of}
-use Rattle.vcpu_core.proofs.Stays.{truthful_lanes_stay}
+use Rattle.vcpu_core.specs.Stages.{AreStagesFor}
+use Rattle.vcpu_core.proofs.Stays.{truthful_lanes_are_placed, truthful_lanes_stay}
+use Rattle.vcpu_core.proofs.Run.{stages_serve}
+use Rattle.gstage.specs.Table.{Table}
+use Rattle.run_evidence.proofs.OneVcpu.{full-vcpus}
 use Rattle.vcpu_core.proofs.Ready.{named-below}
 use Rattle.vcpu_crew.specs.declared.round.Rounded.{Rounded}
 use Rattle.vcpu_crew.specs.declared.round.TheConstants.{TURN_LIMIT}
-use Rattle.vcpu_crew.specs.Round.{HasFilled, HasMended, HasTurned, IsBetweenRounds, answered, with_log}
+use Rattle.vcpu_crew.specs.declared.round.Rounded.TheVariants.{Went}
+use Rattle.vcpu_crew.specs.Round.{HasFilled, HasMended, HasTurned, IsBetweenRounds, IsRound, answered, with_log}
 
 none_some : {A : Type 0} (x : A) → None ≡ Some x → ⊥
 none_some x e = cc
+
+abbrev pub value_or : Option ℕ → ℕ
+value_or None = 0
+value_or (Some n) = n
+
+some_in : {x y : ℕ} → Some x ≡ Some y → x ≡ y
+some_in e = ap (λ o. value_or o) e
 
 pub at_within : (c : Counts) (i n : ℕ) → at c i ≡ Some n → i < length c
 at_within [] i n e = absurd (none_some n e)
@@ -116,6 +129,24 @@ module _ (c : Config) where
       let parts : times i h ≡ times i v.seen + times i b.0 = ap (times i) b.1 ∙ times_append i v.seen b.0 in
       let none : times i b.0 ≡ 0 = omega arith in
       subst (λ z. IsTruthful c z v.logs l) (sym b.1) (truthful_lanes_stay c v.seen b.0 v.logs v.logs l (others_of i b.0 none) (λ k. begins_whole (log_in v.logs k)) w.truthful)
+
+  -- the steps of a turn on the board as it is taken
+  pub steps_allowed : (v : Known) (l l' : Lane) (b0 b : Seat) (views : Views) (n : ℕ) → IsConfig c → IsBetweenRounds c v l → views ≡ c.views → Begins v.seen b0.schedule → b0 ≡ board_of (config_of v) b0.schedule → IsLawful (config_of v) b0.schedule
+      → ((k : ℕ) → IsEvidence (config_of v) b0.schedule k (log_in v.logs k)) → ((i steps : ℕ) → at v.counts i ≡ Some steps → steps ≡ times i b0.schedule) → TurnsKeep views b0 l b l' n → AreAllowedSteps c b0.schedule v.logs l.vcpu n b l'
+  steps_allowed v l l' b0 b views n ok w same front is lawful evidence counted kept =
+      kept c b0.schedule v.logs ok (sym same) (is ∙ ap (λ (d : Config). board_of d b0.schedule) w.config) (subst (λ (d : Config). IsLawful d b0.schedule) w.config lawful)
+      (of_config v w.config b0.schedule evidence) (taken_lane v l b0.schedule w front counted)
+
+  -- the vCPU is one of the board's, and each view's table is for the board's memory
+  pub vcpu_there : (v : Known) (l : Lane) (b : Seat) → IsBetweenRounds c v l → b ≡ board_of (config_of v) b.schedule → l.vcpu < length b.state.slots
+  vcpu_there v l b w is =
+      let now : b ≡ board_of c b.schedule = is ∙ ap (λ (d : Config). board_of d b.schedule) w.config in
+      subst (λ (d : Seat). l.vcpu < length d.state.slots) (sym now) (let wide = full-vcpus c b.schedule in let lt = w.number in omega arith)
+
+  pub stages_there : (v : Known) (l : Lane) (b : Seat) (n : ℕ) (stages : List Table) → IsConfig c → IsBetweenRounds c v l → b ≡ board_of (config_of v) b.schedule → AreStagesFor (full c []).ram n stages → AreStagesFor b.state.ram n stages
+  stages_there v l b n stages ok w is all =
+      let now : b ≡ board_of c b.schedule = is ∙ ap (λ (d : Config). board_of d b.schedule) w.config in
+      subst (λ (d : Seat). AreStagesFor d.state.ram n stages) (sym now) (stages_serve c [] b.schedule n stages ok all)
 
   pub turn_gives : (v m : Known) (l l' : Lane) (h : List ℕ) (b : Seat) (n : ℕ) → IsBetweenRounds c v l → m ≡ with_board v h → AreAllowedSteps c h v.logs l.vcpu n b l' → GivesBoard m b
   turn_gives v m l l' h b n w took a =
@@ -248,3 +279,119 @@ mend_vcpu g l Running = refl
 mend_vcpu g l (Wants n) = refl
 mend_vcpu g l (Trapped t) = refl
 mend_vcpu g l (Looked k) = refl
+
+pub wanting_stands : (p : Phase) → IsWanting p → p ≡ Running → ⊥
+wanting_stands p w q = subst IsWanting q w
+
+pub looked_stands : (p : Phase) → IsLooked p → p ≡ Running → ⊥
+looked_stands p w q = subst IsLooked q w
+
+module _ (c : Config) where
+  -- what a fill and a mend ask of the lane
+  pub fill_placed : (v : Known) (l : Lane) (q : PagedView) (k : ℕ) (log : Log) → IsBetweenRounds c v l → q ≡ paged_at (config_of v) k log → IsPlaced q.groups l l.phase
+  fill_placed v l q k log w is =
+      let groups : q.groups ≡ groups_in c = ap (λ (p : PagedView). p.groups) is ∙ ap (λ (d : Config). groups_in d) w.config in
+      subst (λ (x : Groups). IsPlaced x l l.phase) (sym groups) (truthful_lanes_are_placed c v.seen v.logs l w.truthful)
+
+  pub table_placed : (v : Known) (l : Lane) (t : Groups) → IsBetweenRounds c v l → t ≡ groups_in c → IsPlaced t l l.phase
+  table_placed v l t w is = subst (λ (x : Groups). IsPlaced x l l.phase) (sym is) (truthful_lanes_are_placed c v.seen v.logs l w.truthful)
+
+  -- a fill, and a view that is given back as it was
+  fill_shape : (v m x : Known) (k : ℕ) (q : PagedView) (log : Log) → m ≡ with_view v (k + 1) k log → q ≡ paged_at (config_of v) k log → x ≡ after_view m q.number q.log → x ≡ told v None v.seen (set v.logs k log) v.counts
+  fill_shape v m x k q log took is gave =
+      let number : q.number ≡ k = ap (λ (p : PagedView). p.number) is in
+      let entries : q.log ≡ log = ap (λ (p : PagedView). p.log) is in
+      view_shape c v m x (k + 1) k log log took (gave ∙ (λ i. after_view m (number i) (entries i)))
+
+  pub fill_did : (v m x : Known) (l l' : Lane) (q : PagedView) (log : Log) → IsBetweenRounds c v l → Begins (log_in v.logs l.windows.view) log → m ≡ with_view v (l.windows.view + 1) l.windows.view log
+      → q ≡ paged_at (config_of v) l.windows.view log → l' ≡ fill_row q l l.phase → x ≡ after_view m q.number q.log → HasFilled c v l x l'
+  fill_did v m x l l' q log w front took is exact gave = record {
+    log = log;
+    seen = front;
+    lane = exact ∙ ap (λ (p : PagedView). fill_row p l l.phase) (is ∙ ap (λ (d : Config). paged_at d l.windows.view log) w.config);
+    pass = fill_shape v m x l.windows.view q log took is gave;
+  }
+
+  pub fill_between : (v m x : Known) (l l' : Lane) (q : PagedView) (log : Log) → IsConfig c → IsBetweenRounds c v l → l.windows.view < length v.logs → Begins (log_in v.logs l.windows.view) log
+      → m ≡ with_view v (l.windows.view + 1) l.windows.view log → q ≡ paged_at (config_of v) l.windows.view log → l' ≡ fill_row q l l.phase → FillKeeps q l l' → x ≡ after_view m q.number q.log → IsBetweenRounds c x l'
+  fill_between v m x l l' q log ok w lt front took is exact kept gave =
+      let k : ℕ = l.windows.view in
+      view_between c v x l l' k log w (fill_shape v m x k q log took is gave) (ap (λ (y : Lane). y.vcpu) exact ∙ fill_vcpu q l l.phase)
+      (kept c v.seen (set v.logs k log) ok (found_view c v k log q w.config lt is) (found_lane c v l k log w lt front))
+
+  -- a mend
+  mended : (v : Known) (l l' : Lane) (p q : PagedView) (log : Log) (did : Patched) → IsConfig c → IsBetweenRounds c v l → l.windows.view < length v.logs → Begins (log_in v.logs l.windows.view) log
+      → p ≡ paged_at (config_of v) l.windows.view log → MendKeeps p l q l' did → IsMended c v.seen p q l' did
+  mended v l l' p q log did ok w lt front is kept =
+      let k : ℕ = l.windows.view in
+      kept c v.seen (set v.logs k log) ok (found_view c v k log p w.config lt is) (found_lane c v l k log w lt front)
+
+  pub mend_gives : (v m : Known) (l l' : Lane) (p q : PagedView) (log : Log) (did : Patched) → l.windows.view < views_count c → IsConfig c → IsBetweenRounds c v l → l.windows.view < length v.logs
+      → Begins (log_in v.logs l.windows.view) log → m ≡ with_view v (l.windows.view + 1) l.windows.view log → p ≡ paged_at (config_of v) l.windows.view log → MendKeeps p l q l' did → GivesView c m q
+  mend_gives v m l l' p q log did below ok w lt front took is kept =
+      patched_gives c v m l.windows.view log p q did w.config below lt took is (mended v l l' p q log did ok w lt front is kept).view
+
+  mend_number : (v m : Known) (k : ℕ) (q : PagedView) (log : Log) → GivesView c m q → m ≡ with_view v (k + 1) k log → q.number ≡ k
+  mend_number v m k q log g took = let e : Some (k + 1) ≡ Some (q.number + 1) = sym (ap (λ (y : Known). y.holds) took) ∙ g.taken in let n : k + 1 ≡ q.number + 1 = some_in e in omega arith
+
+  mend_shape : (v m x : Known) (k : ℕ) (q : PagedView) (log : Log) → GivesView c m q → m ≡ with_view v (k + 1) k log → x ≡ after_view m q.number q.log → x ≡ told v None v.seen (set v.logs k q.log) v.counts
+  mend_shape v m x k q log g took gave =
+      view_shape c v m x (k + 1) k log q.log took (gave ∙ ap (λ (n : ℕ). after_view m n q.log) (mend_number v m k q log g took))
+
+  pub mend_did : (v m x : Known) (l l' : Lane) (p q : PagedView) (log : Log) → l.windows.view < views_count c → (t : Groups) (did : Patched) → IsConfig c → IsBetweenRounds c v l → t ≡ groups_in c → l.windows.view < length v.logs
+      → Begins (log_in v.logs l.windows.view) log → m ≡ with_view v (l.windows.view + 1) l.windows.view log → p ≡ paged_at (config_of v) l.windows.view log → MendKeeps p l q l' did
+      → q ≡ mend_view p l.phase → l' ≡ mend_row t l l.phase → x ≡ after_view m q.number q.log → HasMended c v l x l'
+  mend_did v m x l l' p q log below t did ok w same lt front took is kept view lane gave =
+      let k : ℕ = l.windows.view in
+      let now : q ≡ mend_view (paged_at c k log) l.phase = view ∙ ap (λ (y : PagedView). mend_view y l.phase) (is ∙ ap (λ (d : Config). paged_at d k log) w.config) in record {
+        log = log;
+        seen = front;
+        lane = lane ∙ ap (λ (y : Groups). mend_row y l l.phase) same;
+        pass = mend_shape v m x k q log (mend_gives v m l l' p q log did below ok w lt front took is kept) took gave ∙ ap (λ (y : PagedView). with_log v l y.log) now;
+      }
+
+  pub mend_between : (v m x : Known) (l l' : Lane) (p q : PagedView) (log : Log) → l.windows.view < views_count c → (t : Groups) (did : Patched) → IsConfig c → IsBetweenRounds c v l → l.windows.view < length v.logs
+      → Begins (log_in v.logs l.windows.view) log → m ≡ with_view v (l.windows.view + 1) l.windows.view log → p ≡ paged_at (config_of v) l.windows.view log → MendKeeps p l q l' did
+      → l' ≡ mend_row t l l.phase → x ≡ after_view m q.number q.log → IsBetweenRounds c x l'
+  mend_between v m x l l' p q log below t did ok w lt front took is kept lane gave =
+      let k : ℕ = l.windows.view in
+      let g : GivesView c m q = mend_gives v m l l' p q log did below ok w lt front took is kept in
+      let number : p.number ≡ k = ap (λ (y : PagedView). y.number) is in
+      let here : log_in (set v.logs k q.log) p.number ≡ q.log = ap (λ (n : ℕ). log_in (set v.logs k q.log) n) number ∙ log_here v.logs k q.log lt in
+      view_between c v x l l' k q.log w (mend_shape v m x k q log g took gave) (ap (λ (y : Lane). y.vcpu) lane ∙ mend_vcpu t l l.phase) ((mended v l l' p q log did ok w lt front is kept).truthful (set v.logs k q.log) here)
+
+  -- what was done is what the lane's phase asks for
+  pub turned_round : (v : Known) (l : Lane) (v' : Known) (l' : Lane) (answer : Rounded) (p : Phase) → p ≡ Running → HasTurned c v l v' l' answer → IsRound c v l p v' l' answer
+  turned_round v l v' l' answer p is did = subst (λ (q : Phase). IsRound c v l q v' l' answer) (sym is) did
+
+  pub filled_round : (v : Known) (l : Lane) (v' : Known) (l' : Lane) (p : Phase) → IsWanting p → HasFilled c v l v' l' → IsRound c v l p v' l' Went
+  filled_round v l v' l' Running is did = absurd is
+  filled_round v l v' l' (Wants n) is did = (did, refl)
+  filled_round v l v' l' (Trapped t) is did = absurd is
+  filled_round v l v' l' (Looked k) is did = absurd is
+
+  pub mended_round : (v : Known) (l : Lane) (v' : Known) (l' : Lane) (p : Phase) → IsLooked p → HasMended c v l v' l' → IsRound c v l p v' l' Went
+  mended_round v l v' l' Running is did = absurd is
+  mended_round v l v' l' (Wants n) is did = absurd is
+  mended_round v l v' l' (Trapped t) is did = absurd is
+  mended_round v l v' l' (Looked k) is did = (did, refl)
+
+  looked_round : (v : Known) (l l' : Lane) (p : Phase) → IsTrapped p → l' ≡ look_row (groups_in c) l l.phase → IsRound c v l p v l' Went
+  looked_round v l l' Running is did = absurd is
+  looked_round v l l' (Wants n) is did = absurd is
+  looked_round v l l' (Trapped t) is did = (refl, did, refl)
+  looked_round v l l' (Looked k) is did = absurd is
+
+  pub look_did : (v : Known) (l l' : Lane) (t : Groups) → t ≡ groups_in c → IsTrapped l.phase → l' ≡ look_row t l l.phase → IsRound c v l l.phase v l' Went
+  look_did v l l' t same is exact = looked_round v l l' l.phase is (exact ∙ ap (λ (y : Groups). look_row y l l.phase) same)
+
+  pub look_between : (v : Known) (l l' : Lane) (t : Groups) → IsConfig c → t ≡ groups_in c → IsBetweenRounds c v l → l' ≡ look_row t l l.phase → LookKeeps t l l' → IsBetweenRounds c v l'
+  look_between v l l' t ok same w exact kept =
+      let number : l'.vcpu ≡ l.vcpu = ap (λ (y : Lane). y.vcpu) exact ∙ look_vcpu t l l.phase in record {
+        config = w.config;
+        free = w.free;
+        vcpu = number ∙ w.vcpu;
+        number = let old = w.number in omega arith;
+        steps = subst (λ (i : ℕ). at v.counts i ≡ Some (times i v.seen)) (sym number) w.steps;
+        truthful = kept c v.seen v.logs ok same w.truthful;
+      }

@@ -5,8 +5,9 @@ ghost use Rattle.turn_table.specs.Passes.{IsBeside, IsPassOf, known};
 ghost use Rattle.vcpu_core.specs.declared.lane.Phase.{Phase};
 ghost use Rattle.vcpu_core.specs.declared.lane.Then.{Then};
 ghost use Rattle.vcpu_core.specs.Lanes.{IsLooked, IsTrapped, IsWanting};
+ghost use Rattle.vcpu_crew.specs.declared.round.Rounded.{Rounded};
 ghost use Rattle.vcpu_crew.specs.Rig.{IsEquipped, config_of_shared};
-ghost use Rattle.vcpu_crew.specs.Round.{HasFilled, HasMended, HasTurned, IsBetweenRounds, IsRound, answered};
+ghost use Rattle.vcpu_crew.specs.Round.{IsBetweenRounds, IsRound, answered};
 
 use crate::gate::Gate;
 use crate::rig::Shared;
@@ -43,7 +44,7 @@ fn make_turn<W: Wait>(rt: &W, rig: &Shared, pass: &mut Pass, lane: &mut Lane) ->
     requires worker { IsBetweenRounds (config_of_shared rig.now) (known pass.old) lane.old }
     requires phase { lane.old.phase ≡ Phase.Running }
     ensures same { IsBeside pass.old pass.new }
-    ensures did { HasTurned (config_of_shared rig.now) (known pass.old) lane.old (known pass.new) lane.new result }
+    ensures did { IsRound (config_of_shared rig.now) (known pass.old) lane.old lane.old.phase (known pass.new) lane.new result }
     ensures worker { IsBetweenRounds (config_of_shared rig.now) (known pass.new) lane.new }
     ensures vcpu { lane.new.vcpu ≡ lane.old.vcpu }
 {
@@ -60,13 +61,25 @@ fn take_window<W: Wait>(rt: &W, rig: &Shared, pass: &mut Pass, lane: &mut Lane)
     requires worker { IsBetweenRounds (config_of_shared rig.now) (known pass.old) lane.old }
     requires phase { IsWanting lane.old.phase }
     ensures same { IsBeside pass.old pass.new }
-    ensures did { HasFilled (config_of_shared rig.now) (known pass.old) lane.old (known pass.new) lane.new }
+    ensures did { IsRound (config_of_shared rig.now) (known pass.old) lane.old lane.old.phase (known pass.new) lane.new Rounded.Went }
     ensures worker { IsBetweenRounds (config_of_shared rig.now) (known pass.new) lane.new }
     ensures vcpu { lane.new.vcpu ≡ lane.old.vcpu }
 {
     let view = rig.turns.take_view(rt, pass, lane.windows.view);
     fill(&view, lane);
     rig.turns.give_view(pass, view);
+}
+
+/// Looks up the group of the lane's trap.
+fn look_trap(rig: &Shared, _pass: &Pass, lane: &mut Lane)
+    requires rig { IsEquipped rig.now }
+    requires worker { IsBetweenRounds (config_of_shared rig.now) (known _pass.now) lane.old }
+    requires phase { IsTrapped lane.old.phase }
+    ensures did { IsRound (config_of_shared rig.now) (known _pass.now) lane.old lane.old.phase (known _pass.now) lane.new Rounded.Went }
+    ensures worker { IsBetweenRounds (config_of_shared rig.now) (known _pass.now) lane.new }
+    ensures vcpu { lane.new.vcpu ≡ lane.old.vcpu }
+{
+    look_up(&rig.table, lane);
 }
 
 /// Takes the lane's view, mends it, and gives it back.
@@ -76,7 +89,7 @@ fn mend_view<W: Wait>(rt: &W, rig: &Shared, pass: &mut Pass, lane: &mut Lane)
     requires worker { IsBetweenRounds (config_of_shared rig.now) (known pass.old) lane.old }
     requires phase { IsLooked lane.old.phase }
     ensures same { IsBeside pass.old pass.new }
-    ensures did { HasMended (config_of_shared rig.now) (known pass.old) lane.old (known pass.new) lane.new }
+    ensures did { IsRound (config_of_shared rig.now) (known pass.old) lane.old lane.old.phase (known pass.new) lane.new Rounded.Went }
     ensures worker { IsBetweenRounds (config_of_shared rig.now) (known pass.new) lane.new }
     ensures vcpu { lane.new.vcpu ≡ lane.old.vcpu }
 {
@@ -109,10 +122,18 @@ pub fn round<W: Wait, G: Gate>(
 {
     gate.pass(lane.vcpu, n);
     match lane.phase {
-        Phase::Running => return make_turn(rt, rig, pass, lane),
-        Phase::Wants(_) => take_window(rt, rig, pass, lane),
-        Phase::Trapped(_) => look_up(&rig.table, lane),
-        Phase::Looked(_) => mend_view(rt, rig, pass, lane),
+        Phase::Running => make_turn(rt, rig, pass, lane),
+        Phase::Wants(_) => {
+            take_window(rt, rig, pass, lane);
+            Rounded::Went
+        }
+        Phase::Trapped(_) => {
+            look_trap(rig, pass, lane);
+            Rounded::Went
+        }
+        Phase::Looked(_) => {
+            mend_view(rt, rig, pass, lane);
+            Rounded::Went
+        }
     }
-    Rounded::Went
 }
