@@ -17,7 +17,7 @@ use Rattle.run_evidence.proofs.OneVcpu.{full-vcpus}
 use Rattle.run_evidence.proofs.Steps.{step-is}
 use Rattle.turn_table.specs.declared.known.Known.{Known}
 use Rattle.turn_table.specs.Calls.{IsJoined, OwnsAll}
-use Rattle.turn_table.specs.Numbers.{Counts, at, either_count, together}
+use Rattle.turn_table.specs.Numbers.{Counts, at, either_count, times, together}
 use Rattle.turn_table.specs.Rule.{config_of}
 use Rattle.turn_table.specs.Steps.{IsConsistent}
 use Rattle.turn_table.specs.declared.pass.Pass.{Pass}
@@ -195,7 +195,7 @@ worker_finished t w w' v pass is b same stop sure = record {
     config = b.config;
     free = b.free;
     consistent = s;
-    done = subst (λ (i : ℕ). IsDoneWith (config_in t) v i) same record { made = _; owned = b.steps; stopped = stop };
+    done = subst (λ (i : ℕ). IsDoneWith (config_in t) v i) same record { made = times w'.1.vcpu v.seen; owned = b.steps; stopped = stop };
   }) sure;
 }
 

@@ -49,7 +49,8 @@ fn make_turn<W: Wait>(rt: &W, rig: &Shared, pass: &mut Pass, lane: &mut Lane) ->
     ensures vcpu { lane.new.vcpu ≡ lane.old.vcpu }
 {
     let mut board = rig.turns.take_board(rt, pass);
-    let turned = turn(&mut board, &rig.views, &rig.stages, lane, TURN_LIMIT);
+    let stages = rig.stages.as_slice();
+    let turned = turn(&mut board, &rig.views, stages, lane, TURN_LIMIT);
     rig.turns.give_board(pass, board);
     answer_of(turned.then)
 }

@@ -1,4 +1,6 @@
-use Rattle.std.proofs.Common.{◌≡◌, ◌+◌, length, sym, ◌∙◌}
+use Rattle.std.proofs.Common.{◌≡◌, ◌+◌, List, length, sym, subst, ◌∙◌}
+use Rattle.gstage.specs.Table.{Table}
+use Rattle.vcpu_core.specs.Stages.{AreStagesFor}
 use Rattle.run_evidence.specs.Config.{Config}
 use Rattle.vcpu_core.specs.Rows.{AreAllowedSteps}
 use Rattle.vcpu_crew.specs.Rig.{config_of_shared}
@@ -11,8 +13,9 @@ turn-turned-requires-clause-number g c =
 
 pub turn-turned-requires-clause-stages : goal.turn-turned-requires-clause-stages
 turn-turned-requires-clause-stages g c =
-    stages_there (config_of_shared c.args.rig.now) c.args.pass.now.seat.me.0 c.args.lane.now c.take_board-board.result (length c.args.rig.now.views.apps + 1) c.args.rig.now.stages.items c.requires.rig.config c.requires.worker
-    c.take_board-board.ensures.board c.requires.rig.stages
+    subst (λ (s : List Table). AreStagesFor c.take_board-board.result.state.ram (length c.args.rig.now.views.apps + 1) s) (sym c.as_slice-stages.ensures.value)
+    (stages_there (config_of_shared c.args.rig.now) c.args.pass.now.seat.me.0 c.args.lane.now c.take_board-board.result (length c.args.rig.now.views.apps + 1) c.args.rig.now.stages.items c.requires.rig.config c.requires.worker
+    c.take_board-board.ensures.board c.requires.rig.stages)
 
 pub give_board-requires-clause-board : goal.give_board-requires-clause-board
 give_board-requires-clause-board g c =
