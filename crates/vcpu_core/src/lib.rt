@@ -3,6 +3,7 @@
 //! - [`lane`]: what a vCPU holds of its view, and its phase.
 //! - [`rows`]: the rows of the view machine, over the parts that each needs: steps, a fill, a lookup, a mend.
 //! - [`machine`]: the core of a run, and its one event `go`.
+//! - [`open`]: views, second-stage tables and lanes before the first event.
 //! - [`laws`]: what is true after any list of events, and what a lane keeps when other vCPUs go on.
 //!
 //! `Core::go` is one event of the view machine, exactly. After any list of events the board is the full kernel's run of
@@ -21,7 +22,7 @@ mod kernels;
 pub mod lane;
 pub mod laws;
 pub mod machine;
-mod open;
+pub mod open;
 pub mod rows;
 #[cfg(test)]
 mod tests;

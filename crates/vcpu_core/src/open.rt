@@ -1,4 +1,4 @@
-//! A core before the first event.
+//! Views, second-stage tables and lanes before the first event.
 
 ghost use Rattle.std.specs.Prelude.{◌≡◌, ◌≤◌, ◌<◌, ◌+◌, ◌*◌, ◌^◌, ℕ, IfOk, length};
 ghost use Rattle.function_table.specs.Groups.{groups_of, groups_count};
@@ -25,7 +25,7 @@ use view_store::view::View;
 
 /// A view for each app and the full view, each with its base and an empty log.
 #[tactic(auto, unfolding(crate::specs::First::first_paged_views), using(crate::proofs::Bases::base_of_long, crate::proofs::Bases::one_more))]
-pub(crate) fn start_views(
+pub fn start_views(
     alloc: Global,
     image: &Image,
     profile: &Views,
@@ -49,7 +49,7 @@ pub(crate) fn start_views(
 
 /// The second-stage table of each view, of this kind, for the text and the RAM of this memory.
 #[tactic(auto, using(crate::proofs::Staged::spans_of))]
-pub(crate) fn start_stages(
+pub fn start_stages(
     alloc: Global,
     ram: &GuestRam,
     profile: &Views,

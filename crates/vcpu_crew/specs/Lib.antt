@@ -1,0 +1,3 @@
+pub mod Rig
+pub mod Round
+pub mod Crew
