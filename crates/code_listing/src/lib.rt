@@ -16,6 +16,4 @@ mod items;
 mod lines;
 pub mod listing;
 pub mod surface;
-#[cfg(test)]
-mod tests;
 mod text;

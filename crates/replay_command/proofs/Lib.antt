@@ -1,0 +1,5 @@
+pub mod Words
+pub mod Values
+pub mod Vcpus
+pub mod Replayed
+pub mod Refusals
