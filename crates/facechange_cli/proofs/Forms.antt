@@ -5,11 +5,17 @@ use Rattle.guest_input.specs.declared.setup.Setup.{Setup}
 use Rattle.guest_input.specs.declared.limits.TheConstants.{STEPS_MOST}
 use Rattle.facechange_cli.specs.Words.{IsTry, IsDriveForm, IsNoForm}
 use Rattle.facechange_cli.specs.declared.words.Command.{Command}
-use Rattle.facechange_cli.specs.declared.words.Command.TheVariants.{Try, Drive}
+use Rattle.listing_commands.specs.Words.{IsListForm, IsSurfaceForm}
+use Rattle.replay_command.specs.Replay.{IsReplayForm}
+use Rattle.facechange_cli.specs.declared.words.Command.TheVariants.{Try, Drive, Replay, List as Listing, Surface}
 
-pub no_form : (words : List (List ℕ)) → ((setup : Setup) → IsTry words setup → ⊥) → (IsDriveForm words → ⊥) → IsNoForm words
-no_form words try drive (Try setup) form = try setup form
-no_form words try drive Drive form = drive form
+pub no_form : (words : List (List ℕ)) → ((setup : Setup) → IsTry words setup → ⊥) → (IsDriveForm words → ⊥) → (IsReplayForm words → ⊥)
+    → (IsSurfaceForm words → ⊥) → ((app : List ℕ) → IsListForm words app → ⊥) → IsNoForm words
+no_form words try drive replay surface list (Try setup) form = try setup form
+no_form words try drive replay surface list Drive form = drive form
+no_form words try drive replay surface list Replay form = replay form
+no_form words try drive replay surface list (Listing app) form = list app form
+no_form words try drive replay surface list Surface form = surface form
 
 pub bad-steps : (words : List (List ℕ)) (word : List ℕ) → get_or words 4 [] ≡ word
     → ((steps : ℕ) → word ≡ decimal steps → 1 ≤ steps → steps ≤ STEPS_MOST → ⊥) → (setup : Setup) → IsTry words setup → ⊥

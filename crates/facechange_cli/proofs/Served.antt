@@ -3,7 +3,8 @@ use Rattle.std.proofs.Common.{◌≡◌, ℕ, Some, List, ◌⊎◌, inl, inr}
 use Rattle.guest_input.specs.declared.image.Image.{Image}
 use Rattle.guest_input.specs.declared.setup.Setup.{Setup}
 use Rattle.view_file.specs.declared.views.Views.{Views}
-use Rattle.command_frame.specs.Files.{GivesImage, RefusesImage, GivesSetup, RefusesSetup, GivesViews, RefusesViews, GivesScript, RefusesScript}
+use Rattle.trace_file.specs.Trace.{Told as TraceTold}
+use Rattle.command_frame.specs.Files.{GivesImage, RefusesImage, GivesSetup, RefusesSetup, GivesViews, RefusesViews, GivesScript, RefusesScript, GivesTrace, RefusesTrace}
 use Rattle.command_frame.specs.Promise.{Told, MakesNot}
 use Rattle.command_frame.specs.declared.fault.Fault.{Fault}
 use Rattle.command_frame.specs.Exact.{AreSure, IsSure}
@@ -11,7 +12,7 @@ use Rattle.command_frame.proofs.Exact.{accepted-files, refused-files}
 use Rattle.facechange_cli.specs.Requests.{promise_of, request_of}
 use Rattle.facechange_cli.specs.Served.{AcceptedFilesAreServed, RefusedFilesAreAnswered}
 use Rattle.facechange_cli.specs.declared.words.Command.{Command}
-use Rattle.facechange_cli.specs.declared.words.Command.TheVariants.{Try, Drive}
+use Rattle.facechange_cli.specs.declared.words.Command.TheVariants.{Try, Drive, Replay, List as Listing, Surface}
 
 -- each kind of file gives one thing or is refused for one reason
 pub record AllSure : Type 0 where
@@ -19,16 +20,23 @@ pub record AllSure : Type 0 where
   pub setup : (i : Image) → IsSure Setup (λ held. GivesSetup held i) (λ held. RefusesSetup held i)
   pub views : (i : Image) → IsSure Views (λ held. GivesViews held i) (λ held. RefusesViews held i)
   pub script : (vcpus : ℕ) → IsSure (List ℕ) (λ held. GivesScript held vcpus) (λ held. RefusesScript held vcpus)
+  pub trace : IsSure TraceTold GivesTrace RefusesTrace
 
 -- no command fails that has its files
 never-fails : (words : List (List ℕ)) (at : Told) (why : Fault) (command : Command) → MakesNot words at why (request_of words command).promise → ⊥
 never-fails words at why (Try setup) k = k.2.2
 never-fails words at why Drive k = k.2.2.2.2
+never-fails words at why Replay k = k.2.2.2
+never-fails words at why (Listing app) k = k.2.2
+never-fails words at why Surface k = k.2.2
 
 -- so does each file of a command
 sure : AllSure → (command : Command) → AreSure (promise_of command)
 sure all (Try setup) = (all.image, λ i. (all.views i, λ v. tt))
 sure all Drive = (all.image, λ i. (all.setup i, λ s. (all.views i, λ v. (all.script s.vcpus, λ is. tt))))
+sure all Replay = (all.image, λ i. (all.setup i, λ s. (all.trace, λ t. tt)))
+sure all (Listing app) = (all.image, λ i. (all.views i, λ v. tt))
+sure all Surface = (all.image, λ i. (all.views i, λ v. tt))
 
 pub accepted : AllSure → AcceptedFilesAreServed
 accepted all words command b a x at told k free ok = elim (accepted-files (request_of words command) (sure all command) b a x at told k free ok) [

@@ -9,7 +9,9 @@ use Rattle.command_frame.specs.Promise.{Promise, Request, takes_image, takes_set
 use Rattle.command_frame.specs.Products.{ended_of, file_of}
 use Rattle.command_frame.specs.declared.product.Product.{Product}
 use Rattle.facechange_cli.specs.declared.words.Command.{Command}
-use Rattle.facechange_cli.specs.declared.words.Command.TheVariants.{Try, Drive}
+use Rattle.listing_commands.specs.Requests.{list_inputs, list_outputs, list_promise, surface_inputs, surface_outputs, surface_promise}
+use Rattle.replay_command.specs.Replay.{replay_inputs, replay_outputs, replay_promise}
+use Rattle.facechange_cli.specs.declared.words.Command.TheVariants.{Try, Drive, Replay, List as Listing, Surface}
 use Rattle.trace_file.specs.Trace.{Told, text_of}
 use Rattle.guest_runs.specs.Alone.{IsRunOf}
 use Rattle.guest_runs.specs.Driven.{IsDriven}
@@ -38,16 +40,25 @@ pub record IsDrive (c : Config) (script : List ℕ) (p : Product) : Type 0 where
 abbrev pub inputs_of : Command → List ℕ
 inputs_of (Try setup) = 1 ∷ 2 ∷ []
 inputs_of Drive = 1 ∷ 2 ∷ 3 ∷ 4 ∷ []
+inputs_of Replay = replay_inputs
+inputs_of (Listing app) = list_inputs
+inputs_of Surface = surface_inputs
 
 abbrev pub outputs_of : Command → List ℕ
 outputs_of (Try setup) = 5 ∷ []
 outputs_of Drive = 5 ∷ 6 ∷ []
+outputs_of Replay = replay_outputs
+outputs_of (Listing app) = list_outputs
+outputs_of Surface = surface_outputs
 
 -- what each command promises of its files
 abbrev pub promise_of : Command → Promise
 promise_of (Try setup) = takes_image 1 (λ image. takes_views 2 image (λ views. makes (IsTrial (record { image = image; setup = setup; views = views })) (λ why. ⊥)))
 promise_of Drive = takes_image 1 (λ image. takes_setup 2 image (λ setup. takes_views 3 image (λ views. takes_script 4 setup.vcpus (λ script.
     makes (IsDrive (record { image = image; setup = setup; views = views }) script) (λ why. ⊥)))))
+promise_of Replay = replay_promise
+promise_of (Listing app) = list_promise app
+promise_of Surface = surface_promise
 
 -- what a command promises
 abbrev pub request_of : List (List ℕ) → Command → Request

@@ -16,6 +16,9 @@ use command_frame::finish::finish;
 use command_frame::line::{tell, turn_away};
 use command_frame::product::{Product, Refusal};
 use fc_outside::outside::{Sink, Store};
+use listing_commands::list::make_list;
+use listing_commands::surface::make_surface;
+use replay_command::replay::make_replay;
 use std::alloc::Global;
 
 /// What the command makes of its input files, or why it makes nothing.
@@ -35,6 +38,9 @@ fn make<S: Store>(
     match command {
         Command::Try(setup) => make_trial(alloc, words, setup, store),
         Command::Drive => make_drive(alloc, words, store),
+        Command::Replay => make_replay(alloc, words, store),
+        Command::List(app) => make_list(alloc, words, app, store),
+        Command::Surface => make_surface(alloc, words, store),
     }
 }
 
@@ -43,6 +49,10 @@ fn make<S: Store>(
 /// for each missing function that it reached, and what the guest wrote to `out`.
 /// `drive IMAGE SETUP VIEWS SCRIPT TRACE LOG` runs a kernel on several vCPUs in the order of a script, and writes the trace
 /// of the run, its log, and what the guest wrote to `out`.
+/// `replay IMAGE SETUP TRACE` runs the full kernel in the order of a trace, and compares: what the guest wrote goes to
+/// `out` where all is as the trace tells, and else the first difference is on the line.
+/// `list IMAGE VIEWS APP` writes the code that an app's view holds to `out`, instruction by instruction, and `surface IMAGE
+/// VIEWS` how much of the text each app's view holds.
 pub fn face_change_still<S: Store, K: Sink, E: Sink>(
     alloc: Global,
     words: &[String],

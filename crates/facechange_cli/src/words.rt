@@ -11,6 +11,8 @@ use crate::setup::setup_for;
 use fc_numbers::name::Name;
 use guest_input::limits::STEPS_MOST;
 use guest_input::setup::Setup;
+use listing_commands::words::{is_surface, list_of};
+use replay_command::replay::is_replay;
 use std::alloc::Global;
 
 /// A listed form of words, and what it asks for besides files.
@@ -21,6 +23,12 @@ pub enum Command {
     /// `drive IMAGE SETUP VIEWS SCRIPT TRACE LOG`: to run the image by the setup, under the views, in the order of the script,
     /// and to write the trace and the log.
     Drive,
+    /// `replay IMAGE SETUP TRACE`: to run the image by the setup in the order of the trace, and to compare.
+    Replay,
+    /// `list IMAGE VIEWS APP`: to print the code that the view of this app holds.
+    List(Name),
+    /// `surface IMAGE VIEWS`: to print how much of the text each app's view holds.
+    Surface,
 }
 
 /// Whether the word begins with a digit that is not 0.
@@ -82,6 +90,15 @@ pub fn command_of(alloc: Global, words: &[String]) -> Option<Command>
 {
     if is_drive(words) {
         return Some(Command::Drive);
+    }
+    if is_replay(words) {
+        return Some(Command::Replay);
+    }
+    if is_surface(words) {
+        return Some(Command::Surface);
+    }
+    if let Some(app) = list_of(words) {
+        return Some(Command::List(app));
     }
     let setup = try_of(alloc, words)?;
     Some(Command::Try(setup))

@@ -7,4 +7,5 @@ returns c = accepted (record {
   setup = c.setup_files_are_sure.ensures;
   views = c.views_files_are_sure.ensures;
   script = c.script_files_are_sure.ensures;
+  trace = c.trace_files_are_sure.ensures;
 })
