@@ -1,3 +1,0 @@
-pub mod Rounds
-pub mod Finishing
-pub mod Starting

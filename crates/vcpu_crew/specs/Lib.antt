@@ -1,3 +1,0 @@
-pub mod Rig
-pub mod Round
-pub mod Crew
