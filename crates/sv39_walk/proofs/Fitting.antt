@@ -15,7 +15,9 @@ use Rattle.guest_ram.proofs.Laws.{length-with_value, length-with_value_stamps, v
 use Rattle.sv39_walk.specs.declared.cache.Kept.{Kept}
 use Rattle.sv39_walk.specs.declared.cache.Read.{Read}
 use Rattle.sv39_walk.specs.Walk.{walked}
-use Rattle.sv39_walk.specs.Cache.{Fits, FitsOne, FitsSlot, IsLive, IsNow, IsTrue, frames_of, frames_read}
+use Rattle.sv39_walk.specs.Cache.{Fits, FitsOne, FitsSlot, IsLive, IsNow, IsTrue, frames_of}
+use Rattle.sv39_walk.specs.ReadFacts.{frames_read}
+use Rattle.sv39_walk.proofs.Entries.{noted_reads, reads_noted}
 use Rattle.sv39_walk.proofs.Same.{IsSameIn, IsSameShape, same_walked}
 
 -- of two places in different frames the lower frame is that of the lower place
@@ -79,11 +81,13 @@ true_after ram at width v k laid inside aligned fits live =
     let apart_from : All (λ (r : Read). r.frame ≢ frame_of at) k.reads = λ i d h. not_stored ram at width v (get_or k.reads i d) laid inside (fits.stamps i d h) (live i d h) in
     let was_live : IsLive ram k = λ i d h. sym (with_value-other_stamp ram at width v (get_or k.reads i d).frame (apart_from i d h)) ∙ live i d h in
     let is = fits.true_if_live was_live in
+    let noted : All (λ frame. Contains (frames_of k) frame) (frames_read ram k.satp k.asked) = noted_reads ram k is in
     let kept_apart : All (λ frame. frame ≢ frame_of at) (frames_of k) = All-map (λ (frame : ℕ). frame ≢ frame_of at) (λ (r : Read). r.frame) k.reads apart_from in
     let same : All (IsSameIn ram (with_value ram at width v)) (frames_read ram k.satp k.asked) =
-    λ i d h. same_in ram at width v (get_or (frames_read ram k.satp k.asked) i d) laid inside aligned (All-contains (λ (frame : ℕ). frame ≢ frame_of at) (frames_of k) (get_or (frames_read ram k.satp k.asked) i d) kept_apart (is.reads i d h)) in
+    λ i d h. same_in ram at width v (get_or (frames_read ram k.satp k.asked) i d) laid inside aligned (All-contains (λ (frame : ℕ). frame ≢ frame_of at) (frames_of k) (get_or (frames_read ram k.satp k.asked) i d) kept_apart (noted i d h)) in
     let walks = same_walked ram (with_value ram at width v) k.satp k.asked (same_shape ram at width v laid inside aligned) same in
-    record { answer = is.answer ∙ sym walks.0; reads = rw walks.1 is.reads }
+    let after : All (λ frame. Contains (frames_of k) frame) (frames_read (with_value ram at width v) k.satp k.asked) = rw walks.1 noted in
+    record { answer = is.answer ∙ sym walks.0; reads = λ entries paged sign walk. reads_noted (with_value ram at width v) k after entries paged sign walk }
 
 fits_one : (ram : Ram) (at : ℕ) (width : Width) (v : ℕ) (k : Kept) → IsLaid ram → is_inside ram at ≡ true → at % count_of width ≡ 0 → FitsOne ram k → FitsOne (with_value ram at width v) k
 fits_one ram at width v k laid inside aligned fits = record {
@@ -115,11 +119,11 @@ contains-map f rs r at = (at.0, rw (length-map rs) at.1, get_or-map f rs at.0 r 
 -- what was just walked fits
 pub new_fits : (ram : Ram) (k : Kept) (reads : List Read) → k.answer ≡ walked ram k.satp k.asked → map (λ (r : Read). r.frame) reads ≡ frames_read ram k.satp k.asked
     → All (Contains k.reads) reads → All (IsNow ram) k.reads → FitsOne ram k
-new_fits ram k reads answer frames found now = record {
-  true_if_live = λ live. record {
-    answer = answer;
-    reads = rw (sym frames) (All-map (Contains (frames_of k)) (λ (r : Read). r.frame) reads (λ i d h. contains-map (λ (r : Read). r.frame) k.reads (get_or reads i d) (found i d h)));
-  };
-  frames = λ i d h. (now i d h).0;
-  stamps = λ i d h. omega (arith, (now i d h).1);
-}
+new_fits ram k reads answer frames found now =
+    let noted : All (λ frame. Contains (frames_of k) frame) (frames_read ram k.satp k.asked) =
+    rw (sym frames) (All-map (Contains (frames_of k)) (λ (r : Read). r.frame) reads (λ i d h. contains-map (λ (r : Read). r.frame) k.reads (get_or reads i d) (found i d h))) in
+    record {
+      true_if_live = λ live. record { answer = answer; reads = λ entries paged sign walk. reads_noted ram k noted entries paged sign walk };
+      frames = λ i d h. (now i d h).0;
+      stamps = λ i d h. omega (arith, (now i d h).1);
+    }

@@ -1,5 +1,6 @@
 pub mod Steps
 pub mod Sequence
+pub mod Entries
 pub mod Same
 pub mod Fitting
 pub mod Noted

@@ -7,7 +7,7 @@ use Rattle.page_table.specs.Entry.{ppn, is_leaf}
 use Rattle.sv39_walk.specs.declared.Asked.{Asked}
 use Rattle.sv39_walk.specs.Entry.{is_fault}
 use Rattle.sv39_walk.specs.Walk.{entry_place, entry_read}
-use Rattle.sv39_walk.specs.Cache.{frames_from}
+use Rattle.sv39_walk.specs.ReadFacts.{frames_from}
 
 pub ends_by_fault : (ram : Ram) (q : Asked) (levels table at pte : ℕ) → 0 < levels → at ≡ entry_place q (levels - 1) table → Ok pte ≡ entry_read ram at → true ≡ is_fault q (levels - 1) pte → frame_of at ∷ [] ≡ frames_from ram q levels table
 unfolding frames_from

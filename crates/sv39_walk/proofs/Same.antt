@@ -12,7 +12,8 @@ use Rattle.page_table.specs.Mode.{is_canonical, levels_of, satp_mode}
 use Rattle.fc_numbers.specs.declared.places.TheConstants.{RAM_START}
 use Rattle.fc_numbers.specs.Spans.{in_text}
 use Rattle.sv39_walk.specs.Walk.{entry_place, leads_on, ends_in, table_of, walk_from, walked, root_of}
-use Rattle.sv39_walk.specs.Cache.{frames_from, frames_read, is_read}
+use Rattle.sv39_walk.specs.Cache.{is_read}
+use Rattle.sv39_walk.specs.ReadFacts.{frames_from, frames_read}
 
 -- the same places are memory and text
 pub record IsSameShape (a b : Ram) : Type 0 where

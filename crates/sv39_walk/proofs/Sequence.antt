@@ -77,7 +77,7 @@ walk_from_is_walk ram q (suc level) table some =
     refl
 
 -- a walk without its first entry
-shorter : (ram : Ram) (q : Asked) (level table e f : ℕ) (rest : List ℕ) (w : Walked) → IsWalk ram q (suc level) table (e ∷ f ∷ rest) w → IsWalk ram q level (table_of ram e) (f ∷ rest) w
+pub shorter : (ram : Ram) (q : Asked) (level table e f : ℕ) (rest : List ℕ) (w : Walked) → IsWalk ram q (suc level) table (e ∷ f ∷ rest) w → IsWalk ram q level (table_of ram e) (f ∷ rest) w
 shorter ram q level table e f rest w walk =
     let left : suc level - length (e ∷ f ∷ rest) ≡ level - length (f ∷ rest) = omega arith in
     let end = get_or-cons_last e (f ∷ rest) (omega arith) in

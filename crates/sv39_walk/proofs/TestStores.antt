@@ -1,5 +1,5 @@
 -- What a store keeps, whether its place is in memory or not.
-use Rattle.std.proofs.Common.{◌≡◌, ℕ, ◌+◌, ◌<◌, true, false, refl, arith}
+use Rattle.std.proofs.Common.{◌≡◌, ℕ, ◌+◌, true, false, refl, arith}
 use Rattle.std.specs.Prelude.{if◌then◌else◌}
 use Rattle.fc_numbers.specs.declared.machine.Width.{Width}
 use Rattle.guest_ram.specs.Ram.{Ram, AreStampsBelow, is_inside, stored, with_value}

@@ -1,34 +1,21 @@
 -- Answers of walks that are kept, and when they still hold.
 -- A kept answer stands with the frames of the entries that its walk read and their stamps. It is live while no frame of
 -- them was stored to: no fence is needed, since a translation is never stale.
-use Rattle.std.specs.Prelude.{◌≡◌, ℕ, ◌<◌, ◌≤◌, ◌==◌, Bool, not, ◌&&◌, if◌then◌else◌, All, Contains, Option, Some, None, List, [], ◌∷◌, length, map, replicate}
-use Rattle.std.proofs.Common.{zero, suc}
+use Rattle.std.specs.Prelude.{◌≡◌, ◌≢◌, ℕ, ◌<◌, ◌≤◌, Bool, true, not, ◌&&◌, All, Contains, Option, Some, None, List, length, filter, map, replicate}
 use Rattle.guest_ram.specs.Ram.{Ram, frame_of, is_inside, is_text, stamp_of}
 use Rattle.page_table.specs.Mode.{is_canonical, levels_of, satp_mode}
-use Rattle.sv39_walk.specs.declared.Asked.{Asked}
 use Rattle.sv39_walk.specs.declared.cache.Kept.{Kept}
 use Rattle.sv39_walk.specs.declared.cache.Read.{Read}
 use Rattle.sv39_walk.specs.declared.cache.TheConstants.{CACHE_MOST}
-use Rattle.sv39_walk.specs.Walk.{entry_place, leads_on, root_of, table_of, walked}
+use Rattle.sv39_walk.specs.Walk.{IsWalk, root_of, walked}
 
 -- whether the entry at a place is read
 abbrev pub is_read : Ram → ℕ → Bool
 is_read ram at = is_inside ram at && not (is_text ram at)
 
--- the frames of the entries that a walk over so many levels reads
-unfoldable pub frames_from : Ram → Asked → ℕ → ℕ → List ℕ
-frames_from ram q zero table = []
-frames_from ram q (suc level) table =
-    if leads_on ram q level (entry_place q level table)
-    then frame_of (entry_place q level table) ∷ frames_from ram q level (table_of ram (entry_place q level table))
-    else if is_read ram (entry_place q level table) then frame_of (entry_place q level table) ∷ [] else []
-
--- the frames of the entries that a translation reads
-abbrev pub frames_read : Ram → ℕ → Asked → List ℕ
-frames_read ram satp q =
-    if satp_mode satp == 0 then []
-    else if is_canonical (levels_of satp) q.va then frames_from ram q (levels_of satp) (root_of satp)
-    else []
+-- the frames of those of these entries that are read
+abbrev pub frames_in : Ram → List ℕ → List ℕ
+frames_in ram entries = map frame_of (filter (is_read ram) entries)
 
 abbrev pub frames_of : Kept → List ℕ
 frames_of k = map (λ r. r.frame) k.reads
@@ -41,10 +28,11 @@ IsNow ram r = (r.frame < length ram.stamps) × (stamp_of ram r.frame ≡ r.stamp
 abbrev pub IsLive : Ram → Kept → Type 0
 IsLive ram k = All (λ r. stamp_of ram r.frame ≡ r.stamp) k.reads
 
--- the answer is that of the walk, and each frame that the walk reads is kept with a stamp
+-- the answer is that of the walk, and each frame in which the walk reads an entry is kept with a stamp
 pub record IsTrue (ram : Ram) (k : Kept) : Type 0 where
   pub answer : k.answer ≡ walked ram k.satp k.asked
-  pub reads : All (λ frame. Contains (frames_of k) frame) (frames_read ram k.satp k.asked)
+  pub reads : (entries : List ℕ) → satp_mode k.satp ≢ 0 → is_canonical (levels_of k.satp) k.asked.va ≡ true → IsWalk ram k.asked (levels_of k.satp) (root_of k.satp) entries k.answer
+      → All (λ frame. Contains (frames_of k) frame) (frames_in ram entries)
 
 -- the kept answer is true while it is live, and no kept stamp is above that of the frame, which is one of memory
 pub record FitsOne (ram : Ram) (k : Kept) : Type 0 where

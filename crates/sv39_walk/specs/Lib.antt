@@ -3,3 +3,4 @@ pub mod Walk
 pub mod Laws
 pub mod Cache
 pub mod Page
+pub mod ReadFacts

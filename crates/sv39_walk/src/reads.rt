@@ -5,7 +5,8 @@ ghost use Rattle.arrayvec.specs.ArrayVec.{array_vec_len};
 ghost use Rattle.guest_ram.specs.Ram.{frame_of, is_inside};
 ghost use Rattle.page_table.specs.declared.TheConstants.{LEVELS_MOST};
 ghost use Rattle.sv39_walk.specs.declared.cache.TheConstants.{READS_MOST};
-ghost use Rattle.sv39_walk.specs.Cache.{IsNow, frames_from, frames_read};
+ghost use Rattle.sv39_walk.specs.Cache.{IsNow};
+ghost use Rattle.sv39_walk.specs.ReadFacts.{frames_from, frames_read};
 
 use crate::cache::{READS_MOST, Read};
 use crate::entry::is_fault;
@@ -35,7 +36,7 @@ fn read_at(ram: &GuestRam, at: Gpa) -> Read
 }
 
 /// Adds the frames that a walk over so many levels reads, from the table at this place on.
-#[tactic(auto, unfolding(crate::specs::Cache::frames_from))]
+#[tactic(auto, unfolding(crate::specs::ReadFacts::frames_from))]
 fn add_frames(ram: &GuestRam, q: &Asked, levels: u64, table: u64, reads: &mut Reads)
     requires some { 0 < levels }
     requires most { levels ≤ LEVELS_MOST }

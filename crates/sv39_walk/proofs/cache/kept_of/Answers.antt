@@ -2,7 +2,8 @@ use Rattle.std.proofs.Common.{◌≡◌, ◌∷◌, List, get_or, map}
 use Rattle.std.specs.Prelude.{All}
 use Rattle.std.proofs.lemmas.List.Elements.{All-cons, All-contains}
 use Rattle.sv39_walk.specs.declared.cache.Read.{Read}
-use Rattle.sv39_walk.specs.Cache.{IsNow, frames_read}
+use Rattle.sv39_walk.specs.Cache.{IsNow}
+use Rattle.sv39_walk.specs.ReadFacts.{frames_read}
 use Rattle.sv39_walk.proofs.Fitting.{new_fits}
 use Rattle.sv39_walk.proofs.cache.kept_of.Goals as goal
 

@@ -2,7 +2,8 @@ use Rattle.std.proofs.Common.{◌≡◌, ℕ, ◌+◌, ◌-◌, ◌*◌, ◌++�
 use Rattle.std.proofs.lemmas.List.{append_assoc, map-append}
 use Rattle.guest_ram.specs.Ram.{frame_of}
 use Rattle.std.proofs.lemmas.List.Elements.{All-append, All-cons, All-nil}
-use Rattle.sv39_walk.specs.Cache.{IsNow, frames_from}
+use Rattle.sv39_walk.specs.Cache.{IsNow}
+use Rattle.sv39_walk.specs.ReadFacts.{frames_from}
 use Rattle.sv39_walk.specs.declared.cache.Read.{Read}
 use Rattle.sv39_walk.proofs.Noted.{ends_by_fault, ends_by_leaf, goes_deeper}
 use Rattle.sv39_walk.proofs.Steps.{above_last}
