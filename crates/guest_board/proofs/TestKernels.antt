@@ -37,23 +37,8 @@ page_at start = record { start = start; end = start + 4096 }
 abbrev pub start_at : ℕ → ℕ → Start
 start_at range offset = record { range = range; offset = offset }
 
-abbrev pub one_range : List Span
-one_range = page_at RAM_START ∷ []
-
 abbrev pub two_ranges : List Span
 two_ranges = page_at RAM_START ∷ page_at (RAM_START + 8192) ∷ []
-
-pub one-range : (bytes : List ℕ) → length bytes ≡ 4096 → AreRanges one_range bytes
-one-range bytes long = record {
-  below = record {
-    few = omega arith;
-    ranges = (omega arith, omega arith, refl, refl, tt);
-    size = omega arith;
-    high = λ place here. grind (arith, nat_tests, here);
-  };
-  long = omega (arith, long);
-  some = omega (arith, long);
-}
 
 pub two-ranges : (bytes : List ℕ) → length bytes ≡ 8192 → AreRanges two_ranges bytes
 two-ranges bytes long = record {
@@ -66,18 +51,6 @@ two-ranges bytes long = record {
   long = omega (arith, long);
   some = omega (arith, long);
 }
-
-abbrev pub one_starts : List Start
-one_starts = start_at 0 0 ∷ start_at 0 12 ∷ []
-
-pub one-inside : All (IsStartIn one_range) one_starts
-one-inside zero d within = record { range = omega arith; inside = omega arith; even = refl }
-one-inside (suc zero) d within = record { range = omega arith; inside = omega arith; even = refl }
-one-inside (suc (suc k)) d within = absurd (omega arith)
-
-pub one-heads : (n : ℕ) → n < 1 → Contains (offsets_of one_range one_starts) (bytes_before one_range n)
-one-heads zero within = (0, omega arith, refl)
-one-heads (suc n) within = absurd (omega arith)
 
 abbrev pub two_starts : List Start
 two_starts = start_at 0 0 ∷ start_at 1 0 ∷ []

@@ -21,7 +21,7 @@ use crate::open::{new_caches, start_ram, start_slots};
 use crate::rules::{Rules, rules_of};
 use crate::seen::{Seen, Verdict, Windows, judge};
 use crate::slot::{Slot, break_others, deepen, end_by};
-use crate::step::{StepOutcome, StepStart, begin, carry_out, place_fetched};
+use crate::step::{CarriedOut, StepStart, begin, carry_out, place_fetched};
 use chain_log::chain::chain_of;
 use chain_log::entry::Trapped;
 use device_feed::feed::Feed;
@@ -136,97 +136,107 @@ fn read_name(rules: &Rules, vcpu: &Vcpu, ram: &GuestRam) -> Option<Name>
     app_name(ram, &vcpu.csr, vcpu.regs.get(11), rules.name_at)
 }
 
-/// The step of a vCPU that begins so, and what is counted beside it.
+/// A step that has begun: the number of the vCPU's slot, what the step begins with, and the clock.
+#[derive(Clone, Copy)]
+struct StepBegun {
+    at: usize,
+    start: StepStart,
+    clock: u64,
+}
+
+/// The rest of a step of a vCPU, and what is counted beside it.
 #[tactic(auto, unfolding(crate::specs::Board::slot_after))]
 fn carry_slot<S: SecondStage>(
     rules: &Rules,
-    start: StepStart,
+    begun: StepBegun,
     slot: &mut Slot,
     ram: &mut GuestRam,
     cache: &mut WalkCache,
     feed: &mut Feed,
     stage: &S,
-    put: &mut Option<u8>,
-    clock: u64,
-) -> StepOutcome
+) -> CarriedOut
     requires stage { IsFor (S.text stage.now) (S.ram stage.now) ram.old }
     requires stamps { CanStore ram.old }
     requires fits { Fits ram.old cache.old }
     requires made { slot.old.made < 2 ^ 32 - 1 }
     requires depth { slot.old.depth < 2 ^ 32 - 1 }
-    ensures slot { let s : Site = record { vcpu = slot.old.vcpu; ram = ram.old; devices = feed.old } in slot.new ≡ slot_after rules.now s slot.old start (made_by start clock s) }
-    ensures ram { let s : Site = record { vcpu = slot.old.vcpu; ram = ram.old; devices = feed.old } in ram.new ≡ (made_by start clock s).ram }
-    ensures devices { let s : Site = record { vcpu = slot.old.vcpu; ram = ram.old; devices = feed.old } in feed.new ≡ (made_by start clock s).devices }
-    ensures put { let s : Site = record { vcpu = slot.old.vcpu; ram = ram.old; devices = feed.old } in put.new ≡ (made_by start clock s).put }
-    ensures left { let s : Site = record { vcpu = slot.old.vcpu; ram = ram.old; devices = feed.old } in result ≡ (made_by start clock s).left }
+    ensures slot { let s : Site = record { vcpu = slot.old.vcpu; ram = ram.old; devices = feed.old } in slot.new ≡ slot_after rules.now s slot.old begun.start (made_by begun.start begun.clock s) }
+    ensures ram { let s : Site = record { vcpu = slot.old.vcpu; ram = ram.old; devices = feed.old } in ram.new ≡ (made_by begun.start begun.clock s).ram }
+    ensures devices { let s : Site = record { vcpu = slot.old.vcpu; ram = ram.old; devices = feed.old } in feed.new ≡ (made_by begun.start begun.clock s).devices }
+    ensures put { let s : Site = record { vcpu = slot.old.vcpu; ram = ram.old; devices = feed.old } in result.put ≡ (made_by begun.start begun.clock s).put }
+    ensures left { let s : Site = record { vcpu = slot.old.vcpu; ram = ram.old; devices = feed.old } in result.left ≡ (made_by begun.start begun.clock s).left }
     ensures keeps { KeepsText ram.old ram.new }
     ensures fits { Fits ram.new cache.new }
     ensures others { KeepsFits ram.old ram.new }
 {
     // Memory is laid out lawfully, so a step keeps its text; the call says so.
     let _laid = ram.text();
-    let at_hook = is_at_hook(rules, &start);
+    let at_hook = is_at_hook(rules, &begun.start);
     let met = if at_hook {
         read_name(rules, &slot.vcpu, ram)
     } else {
         None
     };
-    let left = carry_out(start, &mut slot.vcpu, ram, cache, feed, stage, put, clock);
+    let done = carry_out(
+        begun.start,
+        &mut slot.vcpu,
+        ram,
+        cache,
+        feed,
+        stage,
+        begun.clock,
+    );
     slot.made += 1;
-    if at_hook && left.end.is_none() {
+    if at_hook && done.left.end.is_none() {
         slot.name = met;
         slot.depth = 0;
     } else {
-        slot.depth = deepen(left.nesting, slot.depth);
+        slot.depth = deepen(done.left.nesting, slot.depth);
     }
-    left
+    done
 }
 
 /// The same in the slots of all, where it breaks the reservations that the others have of what it wrote.
 fn carry_at<S: SecondStage>(
     rules: &Rules,
-    start: StepStart,
+    begun: StepBegun,
     slots: &mut [Slot],
-    at: usize,
     ram: &mut GuestRam,
     cache: &mut WalkCache,
     feed: &mut Feed,
     stage: &S,
-    put: &mut Option<u8>,
-    clock: u64,
-) -> StepOutcome
-    requires inside { at < length slots.old }
+) -> CarriedOut
+    requires inside { begun.at < length slots.old }
     requires stage { IsFor (S.text stage.now) (S.ram stage.now) ram.old }
     requires stamps { CanStore ram.old }
     requires fits { Fits ram.old cache.old }
-    requires steps { (slice_index_or slots.old at no_slot).made < rules.now.steps }
-    requires depths { (k : ℕ) → (slice_index_or slots.old k no_slot).depth ≤ clock }
-    requires low { clock < 2 ^ 32 - 1 }
-    ensures slots { let old = slice_index_or slots.old at no_slot in let s : Site = record { vcpu = old.vcpu; ram = ram.old; devices = feed.old } in slots.new ≡ slice_set (broken_by (made_by start clock s).left.wrote slots.old) at (slot_after rules.now s old start (made_by start clock s)) }
-    ensures ram { let s : Site = record { vcpu = (slice_index_or slots.old at no_slot).vcpu; ram = ram.old; devices = feed.old } in ram.new ≡ (made_by start clock s).ram }
-    ensures devices { let s : Site = record { vcpu = (slice_index_or slots.old at no_slot).vcpu; ram = ram.old; devices = feed.old } in feed.new ≡ (made_by start clock s).devices }
-    ensures put { let s : Site = record { vcpu = (slice_index_or slots.old at no_slot).vcpu; ram = ram.old; devices = feed.old } in put.new ≡ (made_by start clock s).put }
-    ensures left { let s : Site = record { vcpu = (slice_index_or slots.old at no_slot).vcpu; ram = ram.old; devices = feed.old } in result ≡ (made_by start clock s).left }
+    requires steps { (slice_index_or slots.old begun.at no_slot).made < rules.now.steps }
+    requires depths { (k : ℕ) → (slice_index_or slots.old k no_slot).depth ≤ begun.clock }
+    requires low { begun.clock < 2 ^ 32 - 1 }
+    ensures slots { let old = slice_index_or slots.old begun.at no_slot in let s : Site = record { vcpu = old.vcpu; ram = ram.old; devices = feed.old } in slots.new ≡ slice_set (broken_by (made_by begun.start begun.clock s).left.wrote slots.old) begun.at (slot_after rules.now s old begun.start (made_by begun.start begun.clock s)) }
+    ensures ram { let s : Site = record { vcpu = (slice_index_or slots.old begun.at no_slot).vcpu; ram = ram.old; devices = feed.old } in ram.new ≡ (made_by begun.start begun.clock s).ram }
+    ensures devices { let s : Site = record { vcpu = (slice_index_or slots.old begun.at no_slot).vcpu; ram = ram.old; devices = feed.old } in feed.new ≡ (made_by begun.start begun.clock s).devices }
+    ensures put { let s : Site = record { vcpu = (slice_index_or slots.old begun.at no_slot).vcpu; ram = ram.old; devices = feed.old } in result.put ≡ (made_by begun.start begun.clock s).put }
+    ensures left { let s : Site = record { vcpu = (slice_index_or slots.old begun.at no_slot).vcpu; ram = ram.old; devices = feed.old } in result.left ≡ (made_by begun.start begun.clock s).left }
     ensures keeps { KeepsText ram.old ram.new }
     ensures fits { Fits ram.new cache.new }
     ensures others { KeepsFits ram.old ram.new }
     ensures len { length slots.new ≡ length slots.old }
     ensures one_less { left_total rules.now.steps slots.new + 1 ≡ left_total rules.now.steps slots.old }
-    ensures depths { (k : ℕ) → (slice_index_or slots.new k no_slot).depth ≤ clock + 1 }
+    ensures depths { (k : ℕ) → (slice_index_or slots.new k no_slot).depth ≤ begun.clock + 1 }
 {
-    let left = carry_slot(
+    let at = begun.at;
+    let CarriedOut { left, put } = carry_slot(
         rules,
-        start,
+        begun,
         &mut slots[at],
         ram,
         cache,
         feed,
         stage,
-        put,
-        clock,
     );
     break_others(slots, at, left.wrote);
-    left
+    CarriedOut { left, put }
 }
 
 impl Board {
@@ -375,24 +385,21 @@ impl Board {
         ensures after { self.new ≡ moved self.old i (stepped_by self.old.rules self.old.state i start) }
         ensures keeps { KeepsText self.old.state.ram self.new.state.ram }
     {
-        let clock = self.clock();
         let at = i.0 as usize;
-        let mut put = None;
-        let left = carry_at(
+        let clock = self.clock();
+        let begun = StepBegun { at, start, clock };
+        let done = carry_at(
             &self.rules,
-            start,
+            begun,
             &mut self.slots,
-            at,
             &mut self.ram,
             &mut self.caches[at],
             &mut self.feed,
             stage,
-            &mut put,
-            clock,
         );
-        say(&mut self.console, put);
+        say(&mut self.console, done.put);
         push_vcpu(&mut self.schedule, i);
-        self.end = end_by(&self.rules, &self.slots, left.end);
+        self.end = end_by(&self.rules, &self.slots, done.left.end);
     }
 
     /// One step of the full machine, which reads its instruction from the original memory. Kernel text and the size of
@@ -444,7 +451,7 @@ impl Board {
         Trapped {
             view,
             vcpu: i,
-            at: self.schedule.len() as u32,
+            at: self.clock() as u32,
             pc: place,
             chain,
         }

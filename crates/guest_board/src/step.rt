@@ -44,6 +44,21 @@ pub struct StepOutcome {
     pub nesting: Nesting,
 }
 
+/// What the rest of a step leaves: what becomes of the run, and the byte for the console, if there is one.
+#[derive(Debug, Clone, Copy)]
+pub(crate) struct CarriedOut {
+    pub(crate) left: StepOutcome,
+    pub(crate) put: Option<u8>,
+}
+
+/// An instruction that was fetched: what its bits say, None where nothing, the bits, and how many bytes they are.
+#[derive(Clone, Copy, Drop)]
+struct Code {
+    inst: Option<Inst>,
+    bits: u32,
+    len: u8,
+}
+
 /// What a step begins with: an interrupt that is due, by its code, or a fetch.
 #[derive(Debug, Clone, Copy)]
 pub enum StepStart {
@@ -108,37 +123,44 @@ fn nesting_by(inst: &Inst) -> Nesting
     }
 }
 
+/// Nothing for the console.
+fn quiet(left: StepOutcome) -> CarriedOut
+    ensures left { result.left ≡ left }
+    ensures put { result.put ≡ None }
+{
+    CarriedOut { left, put: None }
+}
+
+/// What an instruction does, or the trap where the bits are of none.
 #[tactic(auto, unfolding(crate::specs::Step::by_inst))]
 fn act<S: SecondStage>(
-    inst: Option<Inst>,
-    bits: u32,
-    len: u8,
+    code: Code,
     v: &mut Vcpu,
     ram: &mut GuestRam,
     cache: &mut WalkCache,
     feed: &mut Feed,
     stage: &S,
-    put: &mut Option<u8>,
     clock: u64,
-) -> StepOutcome
+) -> CarriedOut
     requires stage { IsFor (S.text stage.now) (S.ram stage.now) ram.old }
     requires stamps { CanStore ram.old }
     requires fits { Fits ram.old cache.old }
     ensures fits { Fits ram.new cache.new }
     ensures others { KeepsFits ram.old ram.new }
-    ensures made { let got : Made = record { vcpu = v.new; ram = ram.new; devices = feed.new; put = put.new; left = result }
+    ensures made { let got : Made = record { vcpu = v.new; ram = ram.new; devices = feed.new; put = result.put; left = result.left }
         in let s : Site = record { vcpu = v.old; ram = ram.old; devices = feed.old }
-        in got ≡ by_inst inst bits len clock s }
+        in got ≡ by_inst code.inst code.bits code.len clock s }
 {
-    match inst {
+    match code.inst {
         None => {
-            *put = None;
-            trap(v, ILLEGAL_INSTRUCTION, bits as u64);
-            left_plain(Nesting::Traps)
+            trap(v, ILLEGAL_INSTRUCTION, code.bits as u64);
+            quiet(left_plain(Nesting::Traps))
         }
         Some(inst) => {
-            let effect = execute(&inst, len, v, ram, cache, feed, stage, put, clock);
-            settle(v, effect, bits, nesting_by(&inst))
+            let mut put = None;
+            let effect = execute(&inst, code.len, v, ram, cache, feed, stage, &mut put, clock);
+            let left = settle(v, effect, code.bits, nesting_by(&inst));
+            CarriedOut { left, put }
         }
     }
 }
@@ -151,61 +173,44 @@ fn carry_out_fetch<S: SecondStage>(
     cache: &mut WalkCache,
     feed: &mut Feed,
     stage: &S,
-    put: &mut Option<u8>,
     clock: u64,
-) -> StepOutcome
+) -> CarriedOut
     requires stage { IsFor (S.text stage.now) (S.ram stage.now) ram.old }
     requires stamps { CanStore ram.old }
     requires fits { Fits ram.old cache.old }
     ensures fits { Fits ram.new cache.new }
     ensures others { KeepsFits ram.old ram.new }
-    ensures made { let made : Made = record { vcpu = v.new; ram = ram.new; devices = feed.new; put = put.new; left = result }
+    ensures made { let made : Made = record { vcpu = v.new; ram = ram.new; devices = feed.new; put = result.put; left = result.left }
         in let s : Site = record { vcpu = v.old; ram = ram.old; devices = feed.old }
         in made ≡ made_by (Begun got) clock s }
 {
     match got {
         Fetched::Short { half, .. } => {
-            act(
-                decode16(half),
-                half as u32,
-                2,
-                v,
-                ram,
-                cache,
-                feed,
-                stage,
-                put,
-                clock,
-            )
+            let code = Code {
+                inst: decode16(half),
+                bits: half as u32,
+                len: 2,
+            };
+            act(code, v, ram, cache, feed, stage, clock)
         }
         Fetched::Long { first, second, .. } => {
             let bits = first as u32 + 65536 * second as u32;
-            act(
-                decode32(bits),
+            let code = Code {
+                inst: decode32(bits),
                 bits,
-                4,
-                v,
-                ram,
-                cache,
-                feed,
-                stage,
-                put,
-                clock,
-            )
+                len: 4,
+            };
+            act(code, v, ram, cache, feed, stage, clock)
         }
         Fetched::Faults { cause, tval } => {
-            *put = None;
             trap(v, cause, tval);
-            left_plain(Nesting::Traps)
+            quiet(left_plain(Nesting::Traps))
         }
-        Fetched::Stops(stop) => {
-            *put = None;
-            StepOutcome {
-                end: Some(End::Stopped(stop)),
-                wrote: None,
-                nesting: Nesting::Stays,
-            }
-        }
+        Fetched::Stops(stop) => quiet(StepOutcome {
+            end: Some(End::Stopped(stop)),
+            wrote: None,
+            nesting: Nesting::Stays,
+        }),
     }
 }
 
@@ -218,25 +223,23 @@ pub(crate) fn carry_out<S: SecondStage>(
     cache: &mut WalkCache,
     feed: &mut Feed,
     stage: &S,
-    put: &mut Option<u8>,
     clock: u64,
-) -> StepOutcome
+) -> CarriedOut
     requires stage { IsFor (S.text stage.now) (S.ram stage.now) ram.old }
     requires stamps { CanStore ram.old }
     requires fits { Fits ram.old cache.old }
     ensures fits { Fits ram.new cache.new }
     ensures others { KeepsFits ram.old ram.new }
-    ensures made { let made : Made = record { vcpu = v.new; ram = ram.new; devices = feed.new; put = put.new; left = result }
+    ensures made { let made : Made = record { vcpu = v.new; ram = ram.new; devices = feed.new; put = result.put; left = result.left }
         in let s : Site = record { vcpu = v.old; ram = ram.old; devices = feed.old }
         in made ≡ made_by start clock s }
 {
     match start {
         StepStart::Interrupt(code) => {
-            *put = None;
             trap(v, INTERRUPT + code as u64, 0);
-            left_plain(Nesting::Interrupts)
+            quiet(left_plain(Nesting::Interrupts))
         }
-        StepStart::Fetches(got) => carry_out_fetch(got, v, ram, cache, feed, stage, put, clock),
+        StepStart::Fetches(got) => carry_out_fetch(got, v, ram, cache, feed, stage, clock),
     }
 }
 

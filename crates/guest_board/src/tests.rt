@@ -1,8 +1,8 @@
 //! Small kernels, stepped by hand.
 
 ghost use Rattle.std.specs.Prelude.{◌≡◌, ◌<◌, ◌≤◌, ◌+◌, [], ◌∷◌, IfOk, length};
-ghost use Rattle.guest_input.specs.Accepted.{IsImage, IsSetupFor};
-ghost use Rattle.fc_numbers.specs.Spans.{IsTextBelow};
+ghost use Rattle.gstage.specs.Stage.{IsFor};
+ghost use Rattle.guest_input.specs.Accepted.{IsImage, IsSetup};
 ghost use Rattle.guest_input.specs.Text.{spans_of};
 
 use crate::board::{Board, Full};
@@ -14,6 +14,7 @@ use fc_numbers::places::{Gpa, Span, VcpuNo, ViewNo};
 use fc_numbers::shared::SharedBytes;
 use fc_numbers::spans::Spans;
 use fc_numbers::window::Window;
+use gstage::stage::Flat;
 use guest_input::image::{Function, Image, Start};
 use guest_input::ranges::Ranges;
 use guest_input::setup::{Event, Setup, What};
@@ -21,7 +22,7 @@ use sqlite_items::Items;
 use std::alloc::Global;
 use std::test::Fail;
 
-/// The place of the text of these kernels.
+/// The place of the first range of the text of these kernels.
 const BASE: u64 = 0x8000_0000;
 
 /// At 0, `main`: jal put; li a7, 8; ecall. At 12, `put`: li a7, 1; li a0, 'A'; ecall; ret.
@@ -30,23 +31,15 @@ const PRINTS: [u8; 24] = [
     0x10, 0x04, 0x73, 0x00, 0x00, 0x00, 0x82, 0x80,
 ];
 
-/// One page of text.
-fn one_page() -> Spans
-    ensures { result.items ≡ record { start = BASE; end = BASE + 4096 } ∷ [] }
+/// Two ranges of a page each, a page apart.
+fn two_pages() -> Spans
+    ensures { result.items ≡ record { start = BASE; end = BASE + 4096 } ∷ record { start = BASE + 8192; end = BASE + 12288 } ∷ [] }
 {
     let mut spans = Spans::new();
     spans.push(Span {
         start: Gpa(BASE),
         end: Gpa(BASE + 4096),
     });
-    spans
-}
-
-/// Two ranges of a page each, a page apart.
-fn two_pages() -> Spans
-    ensures { result.items ≡ record { start = BASE; end = BASE + 4096 } ∷ record { start = BASE + 8192; end = BASE + 12288 } ∷ [] }
-{
-    let mut spans = one_page();
     spans.push(Span {
         start: Gpa(BASE + 8192),
         end: Gpa(BASE + 12288),
@@ -54,65 +47,38 @@ fn two_pages() -> Spans
     spans
 }
 
-fn function(alloc: Global, range: u8, offset: u32) -> Function
-    ensures { result.at ≡ record { range = range; offset = offset } }
+/// A function at the start of a range.
+fn function(alloc: Global, range: u8) -> Function
+    ensures { result.at ≡ record { range = range; offset = 0 } }
 {
     Function {
-        at: Start { range, offset },
+        at: Start { range, offset: 0 },
         name: Items::new(alloc),
     }
 }
 
-/// A page that begins with this code.
-fn page_of(alloc: Global, code: &[u8]) -> Result<Vec<u8>, NoMemory>
-    requires { length code.now ≤ 4096 }
-    ensures { IfOk result (λ bytes. length bytes.items ≡ 4096) }
-{
-    let mut bytes = vec![in alloc; 0u8; 4096]?;
-    bytes[..code.len()].copy_from_slice(code);
-    Ok(bytes)
-}
-
-/// Two pages. The first begins with a jump to its last halfword, which begins a wide instruction.
-fn split_pages(alloc: Global) -> Result<Vec<u8>, NoMemory>
+/// The bytes of two pages, which begin with this code. The last halfword of the first begins a wide instruction.
+fn pages_of(alloc: Global, code: &[u8]) -> Result<Vec<u8>, NoMemory>
+    requires { length code.now ≤ 4094 }
     ensures { IfOk result (λ bytes. length bytes.items ≡ 8192) }
 {
     let mut bytes = vec![in alloc; 0u8; 8192]?;
-    bytes[..4].copy_from_slice(&[0x6f, 0x00, 0xf0, 0x7f]);
+    bytes[..code.len()].copy_from_slice(code);
     bytes[4094..4097].copy_from_slice(&[0x97, 0x02, 0x01]);
     Ok(bytes)
 }
 
-/// The kernel of this code, with functions at 0 and 12.
+/// The kernel of this code, with a function at the start of each range.
 fn kernel(alloc: Global, code: &[u8]) -> Result<Image, NoMemory>
-    requires { length code.now ≤ 4096 }
-    ensures image { IfOk result (λ image. IsImage image) }
-    ensures spans { IfOk result (λ image. spans_of image.ranges ≡ record { start = BASE; end = BASE + 4096 } ∷ []) }
-    ensures parts { IfOk result (λ image. image.parts ≡ []) }
-{
-    let bytes = page_of(alloc, code)?;
-    let mut functions = Items::new(alloc);
-    functions.push(function(alloc, 0, 0))?;
-    functions.push(function(alloc, 0, 12))?;
-    Ok(Image {
-        entry: BASE,
-        ranges: Ranges::of(one_page(), SharedBytes::from_vec(bytes)?),
-        parts: Items::new(alloc),
-        functions,
-        digest: [0; 32],
-    })
-}
-
-/// The kernel of two ranges that `split_pages` fills, with a function at the start of each.
-fn split_kernel(alloc: Global) -> Result<Image, NoMemory>
+    requires { length code.now ≤ 4094 }
     ensures image { IfOk result (λ image. IsImage image) }
     ensures spans { IfOk result (λ image. spans_of image.ranges ≡ record { start = BASE; end = BASE + 4096 } ∷ record { start = BASE + 8192; end = BASE + 12288 } ∷ []) }
     ensures parts { IfOk result (λ image. image.parts ≡ []) }
 {
-    let bytes = split_pages(alloc)?;
+    let bytes = pages_of(alloc, code)?;
     let mut functions = Items::new(alloc);
-    functions.push(function(alloc, 0, 0))?;
-    functions.push(function(alloc, 1, 0))?;
+    functions.push(function(alloc, 0))?;
+    functions.push(function(alloc, 1))?;
     Ok(Image {
         entry: BASE,
         ranges: Ranges::of(two_pages(), SharedBytes::from_vec(bytes)?),
@@ -122,26 +88,78 @@ fn split_kernel(alloc: Global) -> Result<Image, NoMemory>
     })
 }
 
-/// A setup of so many vCPUs, each with so many steps.
-fn setup(alloc: Global, vcpus: u8, steps: u32, image: &Image) -> Setup
+/// A setup of so many vCPUs, each with so many steps, and a hook, where the external line of vCPU 0 is raised after six
+/// steps.
+fn setup(
+    alloc: Global,
+    vcpus: u8,
+    steps: u32,
+    hook: Option<Start>,
+    name_at: u64,
+) -> Result<Setup, NoMemory>
     requires some { 1 ≤ vcpus }
     requires few { vcpus ≤ 8 }
     requires steps { 1 ≤ steps }
     requires short { steps ≤ 100 }
-    requires text { IsTextBelow 2147549184 (spans_of image.now.ranges) }
-    requires parts { image.now.parts ≡ [] }
-    ensures { IsSetupFor image.now result }
+    requires near { name_at ≤ 100 }
+    ensures setup { IfOk result (λ setup. IsSetup setup) }
+    ensures ram { IfOk result (λ setup. setup.ram ≡ 65536) }
 {
-    Setup {
+    let mut events = Items::new(alloc);
+    events.push(Event {
+        at: 6,
+        what: What::Raise(VcpuNo(0)),
+    })?;
+    Ok(Setup {
         vcpus,
         ram: 0x1_0000,
         steps,
-        hook: None,
-        name_at: 0,
+        hook,
+        name_at,
         start: None,
-        events: Items::new(alloc),
+        events,
         gstage: GKind::Sv39x4,
+    })
+}
+
+/// The board of a run of this code without a hook.
+fn opened(alloc: Global, code: &[u8], vcpus: u8, steps: u32) -> Result<Board, NoMemory>
+    requires code { length code.now ≤ 4094 }
+    requires some { 1 ≤ vcpus }
+    requires few { vcpus ≤ 8 }
+    requires steps { 1 ≤ steps }
+    requires short { steps ≤ 100 }
+{
+    let image = kernel(alloc, code)?;
+    let setup = setup(alloc, vcpus, steps, None, 0)?;
+    Board::open(alloc, &image, &setup)
+}
+
+/// The board of a run of one vCPU by this code. The hook is at an offset of the first range.
+fn hooked(alloc: Global, code: &[u8], offset: u32, name_at: u64) -> Result<Board, NoMemory>
+    requires code { length code.now ≤ 4094 }
+    requires near { name_at ≤ 100 }
+{
+    let image = kernel(alloc, code)?;
+    let hook = Start { range: 0, offset };
+    let setup = setup(alloc, 1, 20, Some(hook), name_at)?;
+    Board::open(alloc, &image, &setup)
+}
+
+/// The place that a step of the full machine fetches; None where the vCPU may not step, or fetches no place of text.
+fn fetched(board: &mut Board, i: u8) -> Option<u64> {
+    match board.step_full(VcpuNo(i)) {
+        Full::Stepped(Some(place)) => Some(place.0),
+        _ => None,
     }
+}
+
+/// A step of vCPU 0 by these windows.
+fn step_by(board: &mut Board, seen: &Windows, stage: &Flat) -> Seen
+    requires { IsFor stage.now.text.items stage.now.ram board.old.state.ram }
+    ensures { IsFor stage.now.text.items stage.now.ram board.new.state.ram }
+{
+    board.step_seen(VcpuNo(0), seen, stage)
 }
 
 /// Where the seven instructions of a vCPU are fetched.
@@ -157,43 +175,28 @@ const PLACES: [u64; 7] = [
 
 #[test]
 fn two_vcpus_step_by_turns(rt: HostRuntime) -> Result<(), Fail> {
-    let alloc = rt.alloc();
-    let image = kernel(alloc, &PRINTS)?;
-    let setup = setup(alloc, 2, 20, &image);
-    let mut board = Board::open(alloc, &image, &setup)?;
-    assert!(rt; board.vcpus() == 2);
-    for (k, place) in PLACES.iter().enumerate() {
-        for i in [0u8, 1] {
-            let ends = k == 6 && i == 1;
-            match board.step_full(VcpuNo(i)) {
-                Full::Stepped(fetched) => {
-                    assert!(rt; !ends, "step {k} of {i}");
-                    assert!(rt; fetched == Some(Gpa(*place)), "step {k} of {i}");
-                }
-                Full::Over => assert!(rt; ends, "step {k} of {i}"),
-            }
-            let console = match k {
-                3 => if i == 0 {
-                    b"A".as_slice()
-                } else {
-                    b"AA".as_slice()
-                },
-                0..=2 => b"".as_slice(),
-                _ => b"AA".as_slice(),
-            };
-            assert!(rt; board.console() == console, "step {k} of {i}");
-            assert!(rt; board.end().is_some() == (k == 6), "step {k} of {i}");
-        }
+    let mut board = opened(rt.alloc(), &PRINTS, 2, 20)?;
+    for k in 0..13usize {
+        let i = (k % 2) as u8;
+        assert_eq!(rt; fetched(&mut board, i), Some(PLACES[k / 2]), "step {k}");
+        let console = match k {
+            0..=5 => b"".as_slice(),
+            6 => b"A".as_slice(),
+            _ => b"AA".as_slice(),
+        };
+        assert!(rt; board.console() == console, "console after step {k}");
+        assert!(rt; board.end().is_some() == (k == 12), "end after step {k}");
     }
-    assert!(rt; board.end() == Some(End::Shutdown));
-    assert!(rt; board.clock() == 13);
+    assert!(rt; board.end() == Some(End::Shutdown), "end");
+    assert!(rt; fetched(&mut board, 1).is_none(), "behind the end");
+    assert!(rt; board.clock() == 13, "clock");
     for (n, i) in board.schedule().iter().enumerate() {
-        assert!(rt; i.0 as usize == n % 2, "step {n}");
+        assert!(rt; i.0 as usize == n % 2, "schedule at {n}");
     }
-    assert!(rt; board.vcpus() == 2);
-    assert!(rt; board.steps_of(VcpuNo(0)) == 7);
-    assert!(rt; board.steps_of(VcpuNo(1)) == 6);
-    assert!(rt; board.depth_of(VcpuNo(0)) == 0);
+    assert!(rt; board.vcpus() == 2, "vcpus");
+    assert!(rt; board.steps_of(VcpuNo(0)) == 7, "steps of vCPU 0");
+    assert!(rt; board.steps_of(VcpuNo(1)) == 6, "steps of vCPU 1");
+    assert!(rt; board.depth_of(VcpuNo(0)) == 0, "depth of vCPU 0");
     Ok(())
 }
 
@@ -220,40 +223,49 @@ fn no_windows() -> Windows
 
 #[test]
 fn a_step_over_windows_needs_traps_and_goes(rt: HostRuntime) -> Result<(), Fail> {
-    let alloc = rt.alloc();
-    let image = kernel(alloc, &PRINTS)?;
-    let setup = setup(alloc, 1, 2, &image);
-    let mut board = Board::open(alloc, &image, &setup)?;
+    let mut board = opened(rt.alloc(), &PRINTS, 1, 2)?;
     let stage = board.flat();
     let mut seen = no_windows();
-    assert!(rt; matches!(board.step_seen(VcpuNo(0), &seen, &stage), Seen::Need(0)));
+    assert!(rt;
+        matches!(step_by(&mut board, &seen, &stage), Seen::Need(0)),
+        "no window"
+    );
     seen.held.push(window(0, 0, 0x00ef, 0x00c0));
-    assert!(rt; matches!(board.step_seen(VcpuNo(0), &seen, &stage), Seen::Stepped));
-    match board.step_seen(VcpuNo(0), &seen, &stage) {
+    assert!(rt;
+        matches!(step_by(&mut board, &seen, &stage), Seen::Stepped),
+        "a jump"
+    );
+    match step_by(&mut board, &seen, &stage) {
         Seen::Zero(trap) => {
-            assert!(rt; trap.view.0 == 1);
-            assert!(rt; trap.vcpu.0 == 0);
-            assert!(rt; trap.at == 1);
-            assert!(rt; trap.pc.0 == 0x8000_000c);
-            assert!(rt; trap.chain.len() == 1);
+            assert!(rt; trap.view.0 == 1, "view");
+            assert!(rt; trap.vcpu.0 == 0, "vcpu");
+            assert!(rt; trap.at == 1, "clock of the trap");
+            assert!(rt; trap.pc.0 == 0x8000_000c, "place");
+            assert!(rt; trap.chain.len() == 1, "length of the chain");
             let caller = &trap.chain[0];
-            assert!(rt; caller.0 == 0x8000_0004);
+            assert!(rt; caller.0 == 0x8000_0004, "caller");
         }
-        _ => assert!(rt; false, "zero"),
+        _ => assert!(rt; false, "a zero"),
     }
-    assert!(rt; board.clock() == 1);
+    assert!(rt; board.clock() == 1, "clock after the trap");
     seen.cleared = Some(Span {
         start: Gpa(0x8000_000c),
         end: Gpa(0x8000_1000),
     });
-    assert!(rt; matches!(board.step_seen(VcpuNo(0), &seen, &stage), Seen::Stepped));
-    assert!(rt; board.vcpus() == 1);
+    assert!(rt;
+        matches!(step_by(&mut board, &seen, &stage), Seen::Stepped),
+        "an own zero"
+    );
+    assert!(rt; board.end() == Some(End::Spent), "end");
+    assert!(rt;
+        matches!(step_by(&mut board, &seen, &stage), Seen::Over),
+        "behind the end"
+    );
+    assert!(rt; board.vcpus() == 1, "vcpus");
     let vcpu = board.vcpu(VcpuNo(0));
-    assert!(rt; vcpu.pc.0 == 0);
-    assert!(rt; vcpu.csr.sepc == 0x8000_000c);
-    assert!(rt; vcpu.csr.scause == 2);
-    assert!(rt; board.end() == Some(End::Spent));
-    assert!(rt; matches!(board.step_seen(VcpuNo(0), &seen, &stage), Seen::Over));
+    assert!(rt; vcpu.pc.0 == 0, "pc");
+    assert!(rt; vcpu.csr.sepc == 0x8000_000c, "sepc");
+    assert!(rt; vcpu.csr.scause == 2, "scause");
     Ok(())
 }
 
@@ -268,45 +280,48 @@ const CROSSES: [u8; 66] = [
 
 #[test]
 fn first_window_of_a_line_counts(rt: HostRuntime) -> Result<(), Fail> {
-    let alloc = rt.alloc();
-    let image = kernel(alloc, &CROSSES)?;
-    let setup = setup(alloc, 1, 2, &image);
-    let mut board = Board::open(alloc, &image, &setup)?;
+    let mut board = opened(rt.alloc(), &CROSSES, 1, 2)?;
+    assert_eq!(rt; fetched(&mut board, 0), Some(0x8000_0000), "the jump");
     let stage = board.flat();
-    assert!(rt;
-        matches!(
-            board.step_full(VcpuNo(0)),
-            Full::Stepped(Some(Gpa(0x8000_0000)))
-        )
-    );
     let mut seen = no_windows();
     seen.held.push(window(1, 0, 0x0513, 0x0410));
-    assert!(rt; matches!(board.step_seen(VcpuNo(0), &seen, &stage), Seen::Need(0)));
+    assert!(rt;
+        matches!(step_by(&mut board, &seen, &stage), Seen::Need(0)),
+        "window of another line"
+    );
     seen.held.push(window(0, 31, 0x0513, 0x0420));
     seen.held.push(window(0, 31, 0x0513, 0x0430));
-    assert!(rt; matches!(board.step_seen(VcpuNo(0), &seen, &stage), Seen::Stepped));
-    assert!(rt; board.vcpus() == 1);
-    assert!(rt; board.vcpu(VcpuNo(0)).regs.get(10) == 66);
+    assert!(rt;
+        matches!(step_by(&mut board, &seen, &stage), Seen::Stepped),
+        "two windows of the line"
+    );
+    assert!(rt; board.vcpus() == 1, "vcpus");
+    assert!(rt;
+        board.vcpu(VcpuNo(0)).regs.get(10) == 66,
+        "the number of the first"
+    );
     Ok(())
 }
 
+/// j 4094.
+const JUMPS: [u8; 4] = [0x6f, 0x00, 0xf0, 0x7f];
+
 #[test]
 fn wide_instruction_ends_in_its_range(rt: HostRuntime) -> Result<(), Fail> {
-    let alloc = rt.alloc();
-    let image = split_kernel(alloc)?;
-    let setup = setup(alloc, 1, 20, &image);
-    let mut board = Board::open(alloc, &image, &setup)?;
-    assert!(rt; board.ram().in_text(Gpa(0x8000_2000)));
-    assert!(rt; board.ram().load(Gpa(0x8000_2000), Width::Word) == Ok(1));
+    let mut board = opened(rt.alloc(), &JUMPS, 1, 20)?;
+    let ram = board.ram();
+    assert!(rt; ram.in_text(Gpa(0x8000_2000)), "the second range is text");
     assert!(rt;
-        matches!(
-            board.step_full(VcpuNo(0)),
-            Full::Stepped(Some(Gpa(0x8000_0000)))
-        )
+        ram.load(Gpa(0x8000_2000), Width::Word) == Ok(1),
+        "the bytes of the second range"
     );
-    assert!(rt; matches!(board.step_full(VcpuNo(0)), Full::Stepped(None)));
-    assert!(rt; board.end() == Some(End::Stopped(Stop::KernelOutsideText)));
-    assert!(rt; board.clock() == 2);
+    assert_eq!(rt; fetched(&mut board, 0), Some(0x8000_0000), "the jump");
+    assert_eq!(rt; fetched(&mut board, 0), None, "the wide instruction");
+    assert!(rt;
+        board.end() == Some(End::Stopped(Stop::KernelOutsideText)),
+        "end"
+    );
+    assert!(rt; board.clock() == 2, "clock");
     Ok(())
 }
 
@@ -343,33 +358,6 @@ const NESTS: [u8; 52] = [
 /// sret.
 const RETURNS: [u8; 4] = [0x73, 0x00, 0x20, 0x10];
 
-/// A setup of one vCPU, whose external line is raised after six steps. The hook is the function at this offset.
-fn hooked(alloc: Global, hook: u32, name_at: u64, image: &Image) -> Result<Setup, NoMemory>
-    requires near { name_at ≤ 100 }
-    requires text { IsTextBelow 2147549184 (spans_of image.now.ranges) }
-    requires parts { image.now.parts ≡ [] }
-    ensures { IfOk result (λ setup. IsSetupFor image.now setup) }
-{
-    let mut events = Items::new(alloc);
-    events.push(Event {
-        at: 6,
-        what: What::Raise(VcpuNo(0)),
-    })?;
-    Ok(Setup {
-        vcpus: 1,
-        ram: 0x1_0000,
-        steps: 20,
-        hook: Some(Start {
-            range: 0,
-            offset: hook,
-        }),
-        name_at,
-        start: None,
-        events,
-        gstage: GKind::Sv39x4,
-    })
-}
-
 /// Whether vCPU 0 has this name, or none where it is empty, and this depth of traps.
 fn stands(board: &Board, name: &str, depth: u32) -> bool {
     if board.vcpus() == 0 {
@@ -382,7 +370,8 @@ fn stands(board: &Board, name: &str, depth: u32) -> bool {
     same && board.depth_of(VcpuNo(0)) == depth
 }
 
-/// The first step of this code after which vCPU 0 has another name or depth than the listed ones.
+/// The first step of a run by this code after which vCPU 0 has another name or depth than the listed ones. The hook is at
+/// an offset of the first range.
 fn first_other(
     alloc: Global,
     code: &[u8],
@@ -390,12 +379,10 @@ fn first_other(
     name_at: u64,
     want: &[(&str, u32)],
 ) -> Result<Option<usize>, NoMemory>
-    requires code { length code.now ≤ 4096 }
+    requires code { length code.now ≤ 4094 }
     requires near { name_at ≤ 100 }
 {
-    let image = kernel(alloc, code)?;
-    let setup = hooked(alloc, hook, name_at, &image)?;
-    let mut board = Board::open(alloc, &image, &setup)?;
+    let mut board = hooked(alloc, code, hook, name_at)?;
     for (k, (name, depth)) in want.iter().enumerate() {
         let stepped = matches!(board.step_full(VcpuNo(0)), Full::Stepped(_));
         if !stepped || !stands(&board, name, *depth) {
@@ -405,84 +392,81 @@ fn first_other(
     Ok(None)
 }
 
-#[test]
-fn hook_names_the_next_task(rt: HostRuntime) -> Result<(), Fail> {
-    let want = [
-        ("", 0),
-        ("", 0),
-        ("", 0),
-        ("red", 0),
-        ("red", 0),
-        ("red", 0),
-        ("blue", 0),
-        ("blue", 0),
-        ("blue", 0),
-        ("", 0),
-    ];
-    let other = first_other(rt.alloc(), &SWITCHES, 32, 8, &want)?;
-    assert!(rt; other.is_none(), "{other:?}");
-    Ok(())
-}
+/// Name and depth after each step: the hook is run three times.
+const TASKS: [(&str, u32); 10] = [
+    ("", 0),
+    ("", 0),
+    ("", 0),
+    ("red", 0),
+    ("red", 0),
+    ("red", 0),
+    ("blue", 0),
+    ("blue", 0),
+    ("blue", 0),
+    ("", 0),
+];
+
+/// The instruction of the hook traps.
+const TRAPPED_HOOK: [(&str, u32); 11] = [
+    ("", 0),
+    ("", 0),
+    ("", 0),
+    ("", 0),
+    ("", 0),
+    ("", 0),
+    ("", 1),
+    ("", 1),
+    ("", 1),
+    ("red", 0),
+    ("red", 0),
+];
+
+/// An interrupt is taken at the place of the hook.
+const INTERRUPTED_HOOK: [(&str, u32); 10] = [
+    ("", 0),
+    ("", 0),
+    ("", 0),
+    ("", 0),
+    ("", 0),
+    ("", 0),
+    ("", 1),
+    ("", 1),
+    ("", 1),
+    ("", 2),
+];
+
+/// A trap within an interrupt comes and goes, and another comes.
+const NESTED: [(&str, u32); 13] = [
+    ("", 0),
+    ("", 0),
+    ("", 0),
+    ("", 0),
+    ("", 0),
+    ("", 0),
+    ("", 1),
+    ("", 1),
+    ("", 1),
+    ("", 1),
+    ("", 2),
+    ("", 1),
+    ("", 2),
+];
+
+/// An SRET outside a trap.
+const UNNESTED: [(&str, u32); 2] = [("", 0), ("", 0)];
 
 #[test]
-fn hook_whose_instruction_traps_is_one(rt: HostRuntime) -> Result<(), Fail> {
-    let want = [
-        ("", 0),
-        ("", 0),
-        ("", 0),
-        ("", 0),
-        ("", 0),
-        ("", 0),
-        ("", 1),
-        ("", 1),
-        ("", 1),
-        ("red", 0),
-        ("red", 0),
-    ];
-    let other = first_other(rt.alloc(), &TRAPS, 64, 40, &want)?;
-    assert!(rt; other.is_none(), "{other:?}");
-    Ok(())
-}
-
-#[test]
-fn interrupt_at_the_hook_is_none(rt: HostRuntime) -> Result<(), Fail> {
-    let want = [
-        ("", 0),
-        ("", 0),
-        ("", 0),
-        ("", 0),
-        ("", 0),
-        ("", 0),
-        ("", 1),
-        ("", 1),
-        ("", 1),
-        ("", 2),
-    ];
-    let other = first_other(rt.alloc(), &TRAPS, 24, 40, &want)?;
-    assert!(rt; other.is_none(), "{other:?}");
-    Ok(())
-}
-
-#[test]
-fn depth_counts_traps_and_their_returns(rt: HostRuntime) -> Result<(), Fail> {
-    let want = [
-        ("", 0),
-        ("", 0),
-        ("", 0),
-        ("", 0),
-        ("", 0),
-        ("", 0),
-        ("", 1),
-        ("", 1),
-        ("", 1),
-        ("", 1),
-        ("", 2),
-        ("", 1),
-        ("", 2),
-    ];
-    let other = first_other(rt.alloc(), &NESTS, 4095, 0, &want)?;
-    assert!(rt; other.is_none(), "{other:?}");
-    let other = first_other(rt.alloc(), &RETURNS, 4095, 0, &[("", 0), ("", 0)])?;
-    assert!(rt; other.is_none(), "{other:?}");
+fn hooks_name_the_next_task_and_traps_count(rt: HostRuntime) -> Result<(), Fail> {
+    let alloc = rt.alloc();
+    let other = first_other(alloc, &SWITCHES, 32, 8, &TASKS)?;
+    assert_eq!(rt; other, None, "the hook names the next task");
+    let other = first_other(alloc, &TRAPS, 64, 40, &TRAPPED_HOOK)?;
+    assert_eq!(rt; other, None, "a hook whose instruction traps is one");
+    let other = first_other(alloc, &TRAPS, 24, 40, &INTERRUPTED_HOOK)?;
+    assert_eq!(rt; other, None, "an interrupt at the hook is none");
+    let other = first_other(alloc, &NESTS, 4092, 0, &NESTED)?;
+    assert_eq!(rt; other, None, "traps and their returns");
+    let other = first_other(alloc, &RETURNS, 4092, 0, &UNNESTED)?;
+    assert_eq!(rt; other, None, "a return outside a trap");
     Ok(())
 }
