@@ -31,11 +31,7 @@ fn file_of(word: usize, bytes: Vec<u8>) -> Written
 }
 
 /// One output file, that the word at this place names.
-pub fn one_file(
-    alloc: Global,
-    word: usize,
-    bytes: Vec<u8>,
-) -> Result<Items<Written>, NoMemory>
+pub fn one_file(alloc: Global, word: usize, bytes: Vec<u8>) -> Result<Items<Written>, NoMemory>
     ensures { IfOk result (λ files. files ≡ file_of word bytes.items ∷ []) }
 {
     let mut files = Items::new(alloc);
