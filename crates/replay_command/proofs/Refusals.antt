@@ -1,5 +1,5 @@
 -- Why the command makes nothing where its third file is refused.
-use Rattle.std.proofs.Common.{◌≡◌, ℕ, List, inl, inr, Err}
+use Rattle.std.proofs.Common.{ℕ, List, inl, inr, Err}
 use Rattle.guest_input.specs.declared.image.Image.{Image}
 use Rattle.guest_input.specs.declared.setup.Setup.{Setup}
 use Rattle.trace_file.specs.declared.trace.Trace.{Trace}

@@ -1,5 +1,5 @@
 -- What a replay makes, from what was found.
-use Rattle.std.proofs.Common.{◌≡◌, ℕ, ◌<◌, ◌≤◌, Bool, true, false, cond, not, List, [], ◌∷◌, ◌++◌, Option, Some, None, Result, Ok, Err, IfOk, length, take, refl, ◌∙◌, sym, ap, subst, arith}
+use Rattle.std.proofs.Common.{◌≡◌, ℕ, Bool, true, false, cond, not, List, [], ◌∷◌, ◌++◌, Some, None, Result, Ok, Err, IfOk, length, take, refl, ◌∙◌, sym, ap, subst, arith}
 use Rattle.std.specs.Prelude.{◌==◌}
 use Rattle.std.proofs.lemmas.Bool.Decides.{nat_tests}
 use Rattle.std.proofs.lemmas.Grind.{common_steps}
@@ -14,7 +14,7 @@ use Rattle.command_frame.specs.Products.{ended_of}
 use Rattle.command_frame.specs.declared.product.Product.{Product}
 use Rattle.replay_command.specs.declared.comparison.Comparison.{Comparison}
 use Rattle.replay_command.specs.declared.comparison.Comparison.TheVariants.{Vcpus, Schedule, Ending, Memory}
-use Rattle.replay_command.specs.Comparisons.{compared, differs, first_difference, run_compared, vcpus_compared}
+use Rattle.replay_command.specs.Comparisons.{differs, first_difference, run_compared, vcpus_compared}
 use Rattle.replay_command.specs.Replay.{IsReplay, IsSame, IsToldBy, Tells}
 use Rattle.replay_command.proofs.Vcpus.{behind, front}
 

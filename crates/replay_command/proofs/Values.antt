@@ -1,5 +1,5 @@
 -- The first value that differs, among the values of two states.
-use Rattle.std.proofs.Common.{◌≡◌, ℕ, zero, suc, ◌+◌, Bool, true, false, cond, not, List, [], ◌∷◌, Option, Some, None, length, map, arith, refl, ◌∙◌, sym, ap, subst}
+use Rattle.std.proofs.Common.{◌≡◌, ℕ, suc, ◌+◌, Bool, true, false, cond, not, List, [], ◌∷◌, Option, Some, None, map, arith, refl, ◌∙◌, sym, ap}
 use Rattle.std.specs.Prelude.{◌==◌, slice_index, zip}
 use Rattle.std.specs.List.{enumerate_from, position_from}
 use Rattle.std.proofs.lemmas.Iterator.Adapters.{position_from-zero}

@@ -1,4 +1,4 @@
-use Rattle.std.proofs.Common.{◌≡◌, ◌∙◌, sym, ap, length, true, false}
+use Rattle.std.proofs.Common.{◌≡◌, length, true, false}
 use Rattle.trace_file.specs.Trace.{told}
 use Rattle.replay_command.specs.declared.comparison.Comparison.TheVariants.{Schedule, Ending, Memory}
 use Rattle.replay_command.specs.Comparisons.{differs}

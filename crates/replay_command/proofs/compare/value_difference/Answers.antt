@@ -1,8 +1,8 @@
-use Rattle.std.proofs.Common.{◌≡◌, ◌∙◌, sym, ap, subst, rules, List, ℕ, Some, None}
+use Rattle.std.proofs.Common.{◌≡◌, ◌∙◌, ap, rules, List, ℕ, Some, None}
 use Rattle.std.specs.Prelude.{slice_index}
 use Rattle.trace_file.specs.Values.{values_of}
 use Rattle.replay_command.specs.declared.comparison.Comparison.TheVariants.{Value}
-use Rattle.replay_command.proofs.Values.{listed, value-found, value-none}
+use Rattle.replay_command.proofs.Values.{value-found, value-none}
 use Rattle.replay_command.proofs.compare.value_difference.Goals as goal
 
 pub returns-in_err-number-clause-value : goal.returns-in_err-number-clause-value
