@@ -1,6 +1,6 @@
 -- What is counted of a view, one more group or page at a time, and the halfwords of the full view.
-use Rattle.std.proofs.Common.{◌≡◌, ◌≢◌, ℕ, zero, suc, ◌+◌, ◌*◌, ◌/◌, ◌<◌, ◌≤◌, Bool, true, false, cond, List, [], ◌∷◌, ◌++◌, length, map, refl, arith, sym, ap, ◌∙◌}
-use Rattle.std.specs.Prelude.{MatchBool, nat_eq, nat_le, sum_by, count_by, slice_index_or, if◌then◌else◌, ◌||◌}
+use Rattle.std.proofs.Common.{◌≡◌, ◌≢◌, ℕ, ◌+◌, ◌*◌, ◌/◌, ◌<◌, Bool, true, false, cond, List, [], ◌∷◌, length, map, refl, arith, sym, ap, ◌∙◌}
+use Rattle.std.specs.Prelude.{MatchBool, nat_eq, nat_le, sum_by, count_by}
 use Rattle.std.specs.List.{range_with_len}
 use Rattle.std.specs.Cmp.Lexicographic.{pointwise}
 use Rattle.std.proofs.lemmas.List.Sums.{count_by-le-length, sum_by-append}
@@ -12,7 +12,7 @@ use Rattle.guest_input.specs.Text.{bytes_of}
 use Rattle.function_table.specs.Groups.{groups_of, group_in, half_of}
 use Rattle.view_file.specs.declared.views.Views.{Views}
 use Rattle.view_file.specs.Base.{is_based}
-use Rattle.view_store.specs.Paged.{PagedView, is_present, mask_of, masked}
+use Rattle.view_store.specs.Paged.{is_present, mask_of, masked}
 use Rattle.code_listing.specs.Surface.{built_view, text_halves}
 
 pub sum-next : (f : ℕ → ℕ) (n : ℕ) → sum_by f (range_with_len 0 (n + 1)) ≡ sum_by f (range_with_len 0 n) + f n

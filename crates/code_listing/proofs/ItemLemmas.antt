@@ -3,7 +3,6 @@ use Rattle.std.proofs.Common.{◌≡◌, ℕ, zero, suc, ◌+◌, ◌<◌, Bool,
 use Rattle.std.specs.Prelude.{◌==◌, if◌then◌else◌, slice_index}
 use Rattle.std.specs.List.{prefix_len}
 use Rattle.lane_kernels.specs.Kernels.{is_open}
-use Rattle.code_listing.specs.declared.items.Item.{Item}
 use Rattle.code_listing.specs.declared.items.Item.TheVariants.{Zeros, Wide, Short}
 use Rattle.code_listing.specs.Items.{items_of, zero_before}
 

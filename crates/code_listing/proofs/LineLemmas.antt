@@ -1,5 +1,5 @@
 -- One more item of a listing, and one more group.
-use Rattle.std.proofs.Common.{◌≡◌, ℕ, zero, suc, ◌+◌, ◌*◌, List, [], ◌∷◌, ◌++◌, drop, refl, arith, sym, ap, ◌∙◌, drop-drop, append_assoc, add-one, add-zero}
+use Rattle.std.proofs.Common.{◌≡◌, ℕ, zero, suc, ◌+◌, ◌*◌, List, [], ◌∷◌, ◌++◌, drop, refl, arith, sym, ap, ◌∙◌, drop-drop, append_assoc, add-zero}
 use Rattle.std.specs.List.{flat_map, range_with_len}
 use Rattle.std.proofs.lemmas.List.Concat.{flat_map-append}
 use Rattle.code_listing.specs.declared.items.Item.{Item}

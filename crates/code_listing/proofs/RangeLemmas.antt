@@ -1,9 +1,9 @@
 -- The range of a group lies within text.
-use Rattle.std.proofs.Common.{◌≡◌, ℕ, zero, suc, ◌+◌, ◌-◌, ◌*◌, ◌/◌, ◌<◌, ◌≤◌, true, arith, refl, subst}
+use Rattle.std.proofs.Common.{◌≡◌, ℕ, zero, suc, ◌+◌, ◌-◌, ◌<◌, ◌≤◌, true, arith}
 use Rattle.std.proofs.lemmas.Bool.Decides.{nat_tests}
 use Rattle.fc_numbers.specs.declared.places.Span.{Span}
 use Rattle.fc_numbers.specs.declared.places.TheConstants.{RAM_START}
-use Rattle.fc_numbers.specs.Spans.{holds, offset_in, text_size}
+use Rattle.fc_numbers.specs.Spans.{offset_in, text_size}
 use Rattle.fc_numbers.specs.SpanLaws.{OffsetsAreBelow, OffsetsRise}
 use Rattle.function_table.specs.Groups.{Groups, IsGroups, IsRangeOf, in_text}
 

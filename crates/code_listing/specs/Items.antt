@@ -1,7 +1,6 @@
 -- The items of some halfwords: runs of zeros, instructions of 32 bits and halfwords.
 -- A halfword with low bits 11 begins an instruction of 32 bits (unprivileged manual, "Base Instruction-Length Encoding"). That a run of zeros is one item is this project's rule.
-use Rattle.std.specs.Prelude.{ℕ, ◌+◌, ◌*◌, ◌==◌, if◌then◌else◌, List, [], ◌∷◌, replicate}
-use Rattle.std.specs.List.{flat_map}
+use Rattle.std.specs.Prelude.{ℕ, ◌+◌, ◌==◌, if◌then◌else◌, List, [], ◌∷◌, replicate}
 use Rattle.lane_kernels.specs.Kernels.{is_open}
 use Rattle.code_listing.specs.declared.items.Item.{Item}
 use Rattle.code_listing.specs.declared.items.Item.TheVariants.{Zeros, Wide, Short}

@@ -10,7 +10,7 @@ use Rattle.chain_log.specs.Line.{hex}
 use Rattle.code_listing.specs.declared.form.Fields.{Fields}
 use Rattle.code_listing.specs.declared.items.Item.{Item}
 use Rattle.code_listing.specs.declared.items.Item.TheVariants.{Zeros, Wide, Short}
-use Rattle.code_listing.specs.Forms.{NamedFields, form_of}
+use Rattle.code_listing.specs.Forms.{form_of}
 use Rattle.code_listing.specs.Items.{size_of}
 
 -- a halfword in four digits of base 16, in lower case

@@ -8,7 +8,7 @@ use Rattle.fc_numbers.specs.Spans.{size_of}
 use Rattle.guest_input.specs.declared.image.Image.{Image}
 use Rattle.guest_input.specs.Text.{bytes_of}
 use Rattle.lane_kernels.specs.Kernels.{is_open}
-use Rattle.function_table.specs.Groups.{Groups, groups_count, groups_of, half_of, range_of}
+use Rattle.function_table.specs.Groups.{groups_count, groups_of, half_of, range_of}
 use Rattle.view_file.specs.declared.views.App.{App}
 use Rattle.view_file.specs.declared.views.Views.{Views}
 use Rattle.view_file.specs.Base.{base_of}

@@ -117,61 +117,87 @@ fn is_text(made: &Option<Result<Product, Refusal>>, pieces: &[&str]) -> bool {
     rest.is_empty()
 }
 
+/// A listing of a kernel of one range.
+struct Row {
+    label: &'static str,
+    text: &'static str,
+    functions: &'static str,
+    apps: &'static str,
+    app: &'static str,
+    /// What is printed, piece by piece.
+    wanted: &'static [&'static str],
+}
+
+const OF_MAIN: &str = "{\"name\":\"sh\",\"functions\":[[0,0]]}";
+
+static ROWS: [Row; 5] = [
+    Row {
+        label: "main alone",
+        text: PUT,
+        functions: PUT_FUNCTIONS,
+        apps: OF_MAIN,
+        app: "sh",
+        wanted: &[MAIN_LINES],
+    },
+    Row {
+        label: "nothing",
+        text: PUT,
+        functions: PUT_FUNCTIONS,
+        apps: "{\"name\":\"sh\",\"functions\":[]}",
+        app: "sh",
+        wanted: &[],
+    },
+    Row {
+        label: "views without apps",
+        text: JOINED,
+        functions: JOINED_FUNCTIONS,
+        apps: "",
+        app: "none",
+        wanted: &[MAIN_LINES, F_INSTRUCTIONS, F_ZEROS],
+    },
+    Row {
+        label: "no app of this name",
+        text: JOINED,
+        functions: JOINED_FUNCTIONS,
+        apps: OF_MAIN,
+        app: "vi",
+        wanted: &[MAIN_LINES, F_INSTRUCTIONS, F_ZEROS],
+    },
+    Row {
+        label: "a joined function",
+        text: JOINED,
+        functions: JOINED_FUNCTIONS,
+        apps: "{\"name\":\"sh\",\"functions\":[[0,26]]}",
+        app: "sh",
+        wanted: &[F_INSTRUCTIONS, F_ZEROS],
+    },
+];
+
+fn rows() -> &'static [Row] {
+    &ROWS
+}
+
 #[test]
 fn present_code_is_listed_item_by_item(rt: HostRuntime) -> Result<(), Fail> {
     let alloc = rt.alloc();
-    let put = image_of(alloc, PUT, PUT_FUNCTIONS)?;
-    let joined = image_of(alloc, JOINED, JOINED_FUNCTIONS)?;
-    let of_main = "{\"name\":\"sh\",\"functions\":[[0,0]]}";
-    for (label, image, apps, app, wanted) in [
-        (
-            "main alone",
-            put.as_str(),
-            of_main,
-            "sh",
-            [MAIN_LINES, "", ""],
-        ),
-        (
-            "no app of this name",
-            joined.as_str(),
-            "",
-            "none",
-            [MAIN_LINES, F_INSTRUCTIONS, F_ZEROS],
-        ),
-        (
-            "the same with apps",
-            joined.as_str(),
-            of_main,
-            "vi",
-            [MAIN_LINES, F_INSTRUCTIONS, F_ZEROS],
-        ),
-        (
-            "a joined function",
-            joined.as_str(),
-            "{\"name\":\"sh\",\"functions\":[[0,26]]}",
-            "sh",
-            [F_INSTRUCTIONS, F_ZEROS, ""],
-        ),
-        (
-            "nothing",
-            put.as_str(),
-            "{\"name\":\"sh\",\"functions\":[]}",
-            "sh",
-            ["", "", ""],
-        ),
-        (
-            "the second of two ranges",
-            SPLIT,
-            "{\"name\":\"sh\",\"functions\":[[1,0]]}",
-            "sh",
-            [SPLIT_LINES, "", ""],
-        ),
-    ] {
-        let views = views_of(alloc, image, apps)?;
-        let mut store = store_of(alloc, image, views.as_str())?;
-        let made = made(alloc, &["list", "image", "views", app], &mut store)?;
-        assert!(rt; is_text(&made, &wanted), "{label}");
+    for row in rows() {
+        let image = image_of(alloc, row.text, row.functions)?;
+        let views = views_of(alloc, image.as_str(), row.apps)?;
+        let mut store = store_of(alloc, image.as_str(), views.as_str())?;
+        let made = made(alloc, &["list", "image", "views", row.app], &mut store)?;
+        let label = row.label;
+        assert!(rt; is_text(&made, row.wanted), "{label}");
     }
+    Ok(())
+}
+
+#[test]
+fn the_second_of_two_ranges_is_listed(rt: HostRuntime) -> Result<(), Fail> {
+    let alloc = rt.alloc();
+    let views = views_of(alloc, SPLIT, "{\"name\":\"sh\",\"functions\":[[1,0]]}")?;
+    let mut store = store_of(alloc, SPLIT, views.as_str())?;
+    let made = made(alloc, &["list", "image", "views", "sh"], &mut store)?;
+    assert!(rt; is_text(&made, &[SPLIT_LINES]));
     Ok(())
 }
 

@@ -1,5 +1,5 @@
-use Rattle.std.proofs.Common.{◌≡◌, ◌+◌, ◌-◌, ◌*◌, ◌/◌, ◌≤◌, ◌<◌, ◌^◌, arith, true}
-use Rattle.fc_numbers.specs.Spans.{offset_in, text_size}
+use Rattle.std.proofs.Common.{◌≡◌, ◌/◌, arith}
+use Rattle.fc_numbers.specs.Spans.{offset_in}
 use Rattle.code_listing.proofs.RangeLemmas.{range-within}
 use Rattle.code_listing.proofs.halves.halves_of.Goals as goal
 

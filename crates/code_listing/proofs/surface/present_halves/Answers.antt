@@ -1,6 +1,4 @@
-use Rattle.std.proofs.Common.{◌≡◌, ◌+◌, ℕ, arith, refl}
-use Rattle.std.specs.Prelude.{sum_by}
-use Rattle.std.specs.List.{range_with_len}
+use Rattle.std.proofs.Common.{arith, refl}
 use Rattle.code_listing.specs.Surface.{present_size}
 use Rattle.code_listing.proofs.FigureLemmas.{sum-more}
 use Rattle.code_listing.proofs.surface.present_halves.Goals as goal

@@ -1,8 +1,7 @@
 use Rattle.std.proofs.Common.{◌≡◌, ◌+◌, ◌∙◌, ap, count_by}
 use Rattle.lane_kernels.specs.Kernels.{is_open}
 use Rattle.view_store.specs.Paged.{PagedView, mask_of}
-use Rattle.guest_input.specs.Text.{bytes_of}
-use Rattle.code_listing.specs.Surface.{app_line, built_view, figures_line, present_halves, same_pages, text_halves}
+use Rattle.code_listing.specs.Surface.{app_line, built_view, figures_line, present_halves, same_pages}
 use Rattle.code_listing.proofs.surface.push_app.Goals as goal
 
 pub returns : goal.returns
