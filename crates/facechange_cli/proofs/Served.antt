@@ -1,18 +1,18 @@
 -- The frame's laws, at every command.
-use Rattle.std.proofs.Common.{◌≡◌, ℕ, Some, List, ◌⊎◌, inl, inr}
+use Rattle.std.proofs.Common.{◌≡◌, ℕ, Some, List, ◌⊎◌, inl, inr, refl, false}
 use Rattle.guest_input.specs.declared.image.Image.{Image}
 use Rattle.guest_input.specs.declared.setup.Setup.{Setup}
 use Rattle.view_file.specs.declared.views.Views.{Views}
 use Rattle.trace_file.specs.Trace.{Told as TraceTold}
-use Rattle.command_frame.specs.Files.{GivesImage, RefusesImage, GivesSetup, RefusesSetup, GivesViews, RefusesViews, GivesScript, RefusesScript, GivesTrace, RefusesTrace}
+use Rattle.command_frame.specs.Files.{GivesImage, RefusesImage, GivesSetup, RefusesSetup, GivesViews, RefusesViews, GivesScript, RefusesScript, GivesTrace, RefusesTrace, GivesFreeViews, RefusesFreeViews}
 use Rattle.command_frame.specs.Promise.{Told, MakesNot}
 use Rattle.command_frame.specs.declared.fault.Fault.{Fault}
 use Rattle.command_frame.specs.Exact.{AreSure, IsSure}
 use Rattle.command_frame.proofs.Exact.{accepted-files, refused-files}
 use Rattle.facechange_cli.specs.Requests.{promise_of, request_of}
-use Rattle.facechange_cli.specs.Served.{AcceptedFilesAreServed, RefusedFilesAreAnswered}
+use Rattle.facechange_cli.specs.Served.{AcceptedFilesAreServed, RefusedFilesAreAnswered, makes_always}
 use Rattle.facechange_cli.specs.declared.words.Command.{Command}
-use Rattle.facechange_cli.specs.declared.words.Command.TheVariants.{Try, Drive, Replay, List as Listing, Surface}
+use Rattle.facechange_cli.specs.declared.words.Command.TheVariants.{Try, Drive, Profile, Merge, Replay, List as Listing, Surface}
 
 -- each kind of file gives one thing or is refused for one reason
 pub record AllSure : Type 0 where
@@ -21,19 +21,24 @@ pub record AllSure : Type 0 where
   pub views : (i : Image) → IsSure Views (λ held. GivesViews held i) (λ held. RefusesViews held i)
   pub script : (vcpus : ℕ) → IsSure (List ℕ) (λ held. GivesScript held vcpus) (λ held. RefusesScript held vcpus)
   pub trace : IsSure TraceTold GivesTrace RefusesTrace
+  pub free : IsSure Views GivesFreeViews RefusesFreeViews
 
--- no command fails that has its files
-never-fails : (words : List (List ℕ)) (at : Told) (why : Fault) (command : Command) → MakesNot words at why (request_of words command).promise → ⊥
-never-fails words at why (Try setup) k = k.2.2
-never-fails words at why Drive k = k.2.2.2.2
-never-fails words at why Replay k = k.2.2.2
-never-fails words at why (Listing app) k = k.2.2
-never-fails words at why Surface k = k.2.2
+-- only a command that may have no product fails with its files accepted
+fails-where : (words : List (List ℕ)) (at : Told) (why : Fault) (command : Command) → MakesNot words at why (request_of words command).promise → makes_always command ≡ false
+fails-where words at why (Try setup) k = absurd k.2.2
+fails-where words at why Drive k = absurd k.2.2.2.2
+fails-where words at why Profile k = refl
+fails-where words at why Merge k = refl
+fails-where words at why Replay k = absurd k.2.2.2
+fails-where words at why (Listing app) k = absurd k.2.2
+fails-where words at why Surface k = absurd k.2.2
 
 -- so does each file of a command
 sure : AllSure → (command : Command) → AreSure (promise_of command)
 sure all (Try setup) = (all.image, λ i. (all.views i, λ v. tt))
 sure all Drive = (all.image, λ i. (all.setup i, λ s. (all.views i, λ v. (all.script s.vcpus, λ is. tt))))
+sure all Profile = (all.image, λ i. (all.setup i, λ s. tt))
+sure all Merge = (all.free, λ a. (all.free, λ b. tt))
 sure all Replay = (all.image, λ i. (all.setup i, λ s. (all.trace, λ t. tt)))
 sure all (Listing app) = (all.image, λ i. (all.views i, λ v. tt))
 sure all Surface = (all.image, λ i. (all.views i, λ v. tt))
@@ -41,7 +46,7 @@ sure all Surface = (all.image, λ i. (all.views i, λ v. tt))
 pub accepted : AllSure → AcceptedFilesAreServed
 accepted all words command b a x at told k free ok = elim (accepted-files (request_of words command) (sure all command) b a x at told k free ok) [
   | inl none ↦ inl none
-  | inr rest ↦ elim rest [ inl made ↦ inr made | inr failed ↦ absurd (never-fails words at failed.0 command failed.2) ]
+  | inr rest ↦ elim rest [ inl made ↦ inr (inl made) | inr failed ↦ inr (inr (fails-where words at failed.0 command failed.2, failed)) ]
 ]
 
 pub refused : AllSure → RefusedFilesAreAnswered

@@ -1,19 +1,31 @@
 -- Each cause has its answer, for every command.
-use Rattle.std.specs.Prelude.{◌≡◌, ℕ, ◌⊎◌, Some, List}
+use Rattle.std.specs.Prelude.{◌≡◌, ℕ, ◌⊎◌, Bool, true, false, Some, List}
 use Rattle.command_frame.specs.Finished.{Outside}
 use Rattle.command_frame.specs.Promise.{Told, Accepts}
 use Rattle.command_frame.specs.Command.{IsAnswer}
-use Rattle.command_frame.specs.Exact.{IsFaultFree, IsMade, RefusedFilesAnswer}
+use Rattle.command_frame.specs.Exact.{IsFaultFree, IsMade, IsNotMade, RefusedFilesAnswer}
 use Rattle.command_frame.specs.declared.answer.Answer.{Answer}
 use Rattle.command_frame.specs.declared.answer.Answer.TheVariants.{NoMemory}
 use Rattle.facechange_cli.specs.Requests.{request_of}
 use Rattle.facechange_cli.specs.declared.words.Command.{Command}
+use Rattle.facechange_cli.specs.declared.words.Command.TheVariants.{Try, Drive, Profile, Merge, Replay, List as Listing, Surface}
 
--- where all input files are accepted, the command is served
+-- whether the command has a product for all files that are accepted: a profile may meet too many names, and views may have no union
+abbrev pub makes_always : Command → Bool
+makes_always (Try setup) = true
+makes_always Drive = true
+makes_always Profile = false
+makes_always Merge = false
+makes_always Replay = true
+makes_always (Listing app) = true
+makes_always Surface = true
+
+-- where all input files are accepted, the command is served; one that may have no product may be refused for that
 abbrev pub AcceptedFilesAreServed : Type 0
 AcceptedFilesAreServed = (words : List (List ℕ)) (command : Command) (before after : Outside) (answer : Answer) (at : Told) → before.files ≡ Some at
     → IsAnswer (request_of words command) before after answer → IsFaultFree before after → Accepts words at (request_of words command).promise
-    → (answer ≡ NoMemory) ⊎ IsMade (request_of words command) at before after answer
+    → (answer ≡ NoMemory) ⊎ (IsMade (request_of words command) at before after answer
+    ⊎ ((makes_always command ≡ false) × IsNotMade (request_of words command) at answer))
 
 -- where a file is refused, the answer is that refusal
 abbrev pub RefusedFilesAreAnswered : Type 0

@@ -19,6 +19,8 @@ use fc_outside::outside::{Sink, Store};
 use listing_commands::list::make_list;
 use listing_commands::surface::make_surface;
 use replay_command::replay::make_replay;
+use view_commands::merge::make_merge;
+use view_commands::profile::make_profile;
 use std::alloc::Global;
 
 /// What the command makes of its input files, or why it makes nothing.
@@ -38,6 +40,8 @@ fn make<S: Store>(
     match command {
         Command::Try(setup) => make_trial(alloc, words, setup, store),
         Command::Drive => make_drive(alloc, words, store),
+        Command::Profile => make_profile(alloc, words, store),
+        Command::Merge => make_merge(alloc, words, store),
         Command::Replay => make_replay(alloc, words, store),
         Command::List(app) => make_list(alloc, words, app, store),
         Command::Surface => make_surface(alloc, words, store),
@@ -49,6 +53,8 @@ fn make<S: Store>(
 /// for each missing function that it reached, and what the guest wrote to `out`.
 /// `drive IMAGE SETUP VIEWS SCRIPT TRACE LOG` runs a kernel on several vCPUs in the order of a script, and writes the trace
 /// of the run, its log, and what the guest wrote to `out`.
+/// `profile IMAGE SETUP OUT` runs the full kernel, vCPU after vCPU, and writes the views that the run shows; `merge A B OUT`
+/// writes the union of two views files.
 /// `replay IMAGE SETUP TRACE` runs the full kernel in the order of a trace, and compares: what the guest wrote goes to
 /// `out` where all is as the trace tells, and else the first difference is on the line.
 /// `list IMAGE VIEWS APP` writes the code that an app's view holds to `out`, instruction by instruction, and `surface IMAGE

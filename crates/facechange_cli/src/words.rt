@@ -14,6 +14,8 @@ use guest_input::setup::Setup;
 use listing_commands::words::{is_surface, list_of};
 use replay_command::replay::is_replay;
 use std::alloc::Global;
+use view_commands::merge::is_merge;
+use view_commands::profile::is_profile;
 
 /// A listed form of words, and what it asks for besides files.
 #[derive(Drop)]
@@ -23,6 +25,10 @@ pub enum Command {
     /// `drive IMAGE SETUP VIEWS SCRIPT TRACE LOG`: to run the image by the setup, under the views, in the order of the script,
     /// and to write the trace and the log.
     Drive,
+    /// `profile IMAGE SETUP OUT`: to run the image by the setup, and to write the views that the run shows.
+    Profile,
+    /// `merge A B OUT`: to write the union of two views files.
+    Merge,
     /// `replay IMAGE SETUP TRACE`: to run the image by the setup in the order of the trace, and to compare.
     Replay,
     /// `list IMAGE VIEWS APP`: to print the code that the view of this app holds.
@@ -90,6 +96,12 @@ pub fn command_of(alloc: Global, words: &[String]) -> Option<Command>
 {
     if is_drive(words) {
         return Some(Command::Drive);
+    }
+    if is_profile(words) {
+        return Some(Command::Profile);
+    }
+    if is_merge(words) {
+        return Some(Command::Merge);
     }
     if is_replay(words) {
         return Some(Command::Replay);

@@ -8,4 +8,5 @@ returns c = accepted (record {
   views = c.views_files_are_sure.ensures;
   script = c.script_files_are_sure.ensures;
   trace = c.trace_files_are_sure.ensures;
+  free = c.free_views_files_are_sure.ensures;
 })
