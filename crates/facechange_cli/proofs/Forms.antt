@@ -4,7 +4,6 @@ use Rattle.std.specs.Prelude.{get_or}
 use Rattle.guest_input.specs.declared.setup.Setup.{Setup}
 use Rattle.guest_input.specs.declared.limits.TheConstants.{STEPS_MOST}
 use Rattle.facechange_cli.specs.Words.{IsTry, IsDriveForm, IsNoForm}
-use Rattle.facechange_cli.specs.declared.words.Command.{Command}
 use Rattle.facechange_cli.specs.declared.words.Command.TheVariants.{Try, Drive}
 
 pub no_form : (words : List (List ℕ)) → ((setup : Setup) → IsTry words setup → ⊥) → (IsDriveForm words → ⊥) → IsNoForm words
