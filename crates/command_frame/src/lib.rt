@@ -28,6 +28,4 @@ pub mod product;
 pub mod products;
 pub mod status;
 #[cfg(test)]
-mod take_tests;
-#[cfg(test)]
 mod tests;
