@@ -1,5 +1,5 @@
 -- Why `drive` makes nothing where its third or its fourth file is refused.
-use Rattle.std.proofs.Common.{◌≡◌, ℕ, List, inl, inr, Err}
+use Rattle.std.proofs.Common.{ℕ, List, inl, inr, Err}
 use Rattle.std.specs.Prelude.{Vec}
 use Rattle.std.specs.declared.alloc.Global.{Global}
 use Rattle.guest_input.specs.declared.image.Image.{Image}

@@ -3,7 +3,6 @@
 use Rattle.std.specs.Prelude.{◌≡◌, ℕ, List, [], ◌∷◌}
 use Rattle.fc_numbers.specs.declared.machine.End.{End}
 use Rattle.guest_input.specs.declared.setup.Setup.{Setup}
-use Rattle.view_file.specs.declared.views.Views.{Views}
 use Rattle.run_evidence.specs.Config.{Config, IsConfig}
 use Rattle.command_frame.specs.Promise.{Promise, Request, takes_image, takes_setup, takes_views, takes_script, makes}
 use Rattle.command_frame.specs.Products.{ended_of, file_of}

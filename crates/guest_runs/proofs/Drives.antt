@@ -1,19 +1,18 @@
 -- The run of several vCPUs by a script, from what the core is after its events.
-use Rattle.std.proofs.Common.{◌≡◌, ℕ, ◌<◌, Some, List, length, refl, ◌∙◌, sym, ap, subst}
-use Rattle.std.specs.Prelude.{slice_index_or, map, IsSome}
+use Rattle.std.proofs.Common.{◌≡◌, ℕ, List, ◌∙◌, sym, ap, subst}
+use Rattle.std.specs.Prelude.{slice_index_or, IsSome}
 use Rattle.std.proofs.lemmas.List.{get_or_default}
 use Rattle.std.specs.List.{flat_map}
 use Rattle.trace_file.specs.Trace.{Told}
-use Rattle.trace_file.specs.Lawful.{IsLawful as IsLawfulTrace}
-use Rattle.guest_board.specs.Board.{Seat, State}
+use Rattle.guest_board.specs.Board.{State}
 use Rattle.view_store.specs.Paged.{PagedView}
 use Rattle.run_evidence.specs.Config.{Config, IsConfig, IsLawful, full}
 use Rattle.run_evidence.specs.Evidence.{IsAllowed}
 use Rattle.run_evidence.specs.Sound.{IsSoundView}
 use Rattle.run_trace.specs.Told.{IsToldBy, IsInRange}
-use Rattle.run_trace.specs.Sound.{IsRun, IsSoundTrace, RunsHaveSoundTraces, TracesOfRunsAreLawful}
+use Rattle.run_trace.specs.Sound.{IsRun, RunsHaveSoundTraces, TracesOfRunsAreLawful}
 use Rattle.vcpu_core.specs.First.{first_world}
-use Rattle.vcpu_core.specs.World.{World, go_all, erased, logs_of, paged_in, blank_paged}
+use Rattle.vcpu_core.specs.World.{World, logs_of, blank_paged}
 use Rattle.vcpu_core.specs.Sound.{IsSound}
 use Rattle.guest_runs.specs.Driven.{IsDriven}
 use Rattle.guest_runs.specs.Engine.{RunsOut}

@@ -1,5 +1,5 @@
 -- Where no vCPU may step, a run has ended.
-use Rattle.std.proofs.Common.{◌≡◌, ◌≢◌, ℕ, zero, suc, ◌+◌, ◌<◌, ◌≤◌, true, false, arith, refl, ◌∙◌, sym, ap, subst, Option, Some, None, List, [], ◌∷◌, ◌++◌, length}
+use Rattle.std.proofs.Common.{◌≡◌, ◌≢◌, ℕ, ◌<◌, ◌≤◌, true, false, arith, refl, ◌∙◌, sym, subst, Option, Some, None, List, [], ◌∷◌, length}
 use Rattle.std.specs.Prelude.{Bool, IsSome, nat_eq, nat_lt, not, ◌&&◌, if◌then◌else◌}
 use Rattle.std.proofs.lemmas.Bool.Decides.{nat_tests}
 use Rattle.std.proofs.lemmas.List.FromFn.{get_or-map-range_with_len, length-map-range_with_len}
@@ -28,7 +28,7 @@ use Rattle.vcpu_core.specs.World.{World, go_all, go_of, went_of, gone, went_in, 
 use Rattle.vcpu_core.specs.declared.lane.Lane.{Lane}
 use Rattle.vcpu_core.specs.declared.lane.Phase.{Phase}
 use Rattle.vcpu_core.specs.declared.lane.Phase.TheVariants.{Running, Wants, Trapped, Looked}
-use Rattle.vcpu_core.specs.declared.lane.Went.TheVariants.{Over, Stepped, Erased}
+use Rattle.vcpu_core.specs.declared.lane.Went.TheVariants.{Over}
 use Rattle.guest_runs.specs.Engine.{IsIdle}
 
 -- what is true after any list of events

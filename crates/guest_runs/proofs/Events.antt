@@ -1,5 +1,5 @@
 -- Lists of events, and what an event of a vCPU that may not step leaves.
-use Rattle.std.proofs.Common.{◌≡◌, ℕ, zero, suc, ◌+◌, ◌<◌, true, false, arith, refl, ◌∙◌, sym, ap, subst, List, [], ◌∷◌, ◌++◌, length, take, get_or, add-one}
+use Rattle.std.proofs.Common.{◌≡◌, ℕ, zero, suc, ◌+◌, ◌<◌, true, false, arith, refl, ◌∙◌, sym, ap, List, [], ◌∷◌, ◌++◌, length, take, get_or, add-one}
 use Rattle.std.specs.Prelude.{slice_index_or, slice_set, if◌then◌else◌}
 use Rattle.std.specs.List.{range_with_len}
 use Rattle.guest_board.specs.Board.{may}
@@ -12,7 +12,7 @@ use Rattle.vcpu_core.specs.Lanes.{went_by}
 use Rattle.vcpu_core.specs.declared.lane.Lane.{Lane}
 use Rattle.vcpu_core.specs.declared.lane.Phase.{Phase}
 use Rattle.vcpu_core.specs.declared.lane.Phase.TheVariants.{Running, Wants, Trapped, Looked}
-use Rattle.vcpu_core.specs.declared.lane.Went.TheVariants.{Over, Stepped, Erased}
+use Rattle.vcpu_core.specs.declared.lane.Went.TheVariants.{Over}
 
 pub go_all-append : (w : World) (is js : List ℕ) → go_all w (is ++ js) ≡ go_all (go_all w is) js
 go_all-append w [] js = refl

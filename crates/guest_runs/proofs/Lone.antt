@@ -1,5 +1,5 @@
 -- The run of one vCPU without a hook, from what the core is after its events.
-use Rattle.std.proofs.Common.{◌≡◌, ℕ, ◌<◌, Some, None, List, [], length, refl, ◌∙◌, sym, ap, subst}
+use Rattle.std.proofs.Common.{◌≡◌, ℕ, ◌<◌, Some, None, List, [], length, ◌∙◌, sym, ap, subst}
 use Rattle.std.specs.Prelude.{All}
 use Rattle.fc_numbers.specs.declared.machine.End.{End}
 use Rattle.run_evidence.specs.Config.{Config, IsConfig, groups_in}

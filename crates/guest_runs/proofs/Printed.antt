@@ -1,10 +1,9 @@
 -- What a justified entry names lies in text.
-use Rattle.std.proofs.Common.{◌≡◌, ℕ, zero, suc, ◌+◌, ◌-◌, ◌%◌, true, false, Option, Some, None, List, [], ◌∷◌, length, arith, refl, ◌∙◌, sym, ap, subst}
+use Rattle.std.proofs.Common.{◌≡◌, ℕ, zero, suc, ◌-◌, ◌%◌, true, false, Option, Some, None, List, [], ◌∷◌, length, arith, refl, ◌∙◌, sym, subst}
 use Rattle.std.specs.Prelude.{All, ◌==◌, nat_lt, if◌then◌else◌, slice_index_or, take, option_and_then}
 use Rattle.std.specs.Option.{option_to_list}
 use Rattle.std.proofs.lemmas.List.Elements.{All-append, All-cons}
 use Rattle.fc_numbers.specs.declared.machine.Mode.{Mode}
-use Rattle.fc_numbers.specs.declared.places.Span.{Span}
 use Rattle.fc_numbers.specs.declared.machine.Access.TheVariants.{Fetch}
 use Rattle.fc_numbers.specs.Numbers.{get_reg}
 use Rattle.function_table.specs.Groups.{in_text}

@@ -1,4 +1,4 @@
-use Rattle.std.proofs.Common.{◌≡◌, subst, inr, map, ℕ, List}
+use Rattle.std.proofs.Common.{subst, inr, map, ℕ, List}
 use Rattle.std.specs.Prelude.{string_bytes}
 use Rattle.fc_outside.specs.Outside.{Files, Faults}
 use Rattle.command_frame.specs.Finished.{Outside, outside_of, Finishes}

@@ -1,4 +1,4 @@
-use Rattle.std.proofs.Common.{◌≡◌, ◌∙◌, ap, sym, subst, List}
+use Rattle.std.proofs.Common.{◌∙◌, ap, sym, subst, List}
 use Rattle.std.specs.Prelude.{IsSome}
 use Rattle.run_evidence.specs.Config.{Config, IsConfig}
 use Rattle.guest_board.specs.Board.{Seat}

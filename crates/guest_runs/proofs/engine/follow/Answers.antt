@@ -1,4 +1,4 @@
-use Rattle.std.proofs.Common.{◌≡◌, ◌∙◌, ap, sym, arith}
+use Rattle.std.proofs.Common.{◌∙◌, ap, sym, arith}
 use Rattle.vcpu_core.specs.World.{go_of}
 use Rattle.guest_runs.proofs.Events.{go_all-take}
 use Rattle.guest_runs.proofs.engine.follow.Goals as goal

@@ -1,4 +1,4 @@
-use Rattle.std.proofs.Common.{◌≡◌, ◌≢◌, ◌+◌, ◌∙◌, sym, subst, rules}
+use Rattle.std.proofs.Common.{◌≢◌, ◌+◌, ◌∙◌, sym, subst, rules}
 use Rattle.vcpu_core.specs.declared.lane.Went.TheVariants.{Over}
 use Rattle.guest_runs.proofs.Rounds.{InRound, over-on, went-on}
 use Rattle.guest_runs.proofs.engine.go_round.Goals as goal

@@ -1,4 +1,4 @@
-use Rattle.std.proofs.Common.{◌≡◌, ◌∙◌, ap, sym, suc, refl}
+use Rattle.std.proofs.Common.{◌∙◌, ap, sym, suc, refl}
 use Rattle.vcpu_core.specs.World.{go_all}
 use Rattle.guest_runs.specs.Engine.{round_of}
 use Rattle.guest_runs.proofs.Rounds.{one-round}
