@@ -1,6 +1,6 @@
 -- The words of some items.
-use Rattle.std.proofs.Common.{◌≡◌, ℕ, zero, suc, ◌<◌, List, [], ◌∷◌, length, arith, refl, ◌∙◌, sym, ap, map}
-use Rattle.std.specs.Prelude.{get_or, not, Bool, true, false}
+use Rattle.std.proofs.Common.{◌≡◌, ℕ, zero, suc, ◌<◌, List, [], ◌∷◌, length, arith, refl, sym, ap, map}
+use Rattle.std.specs.Prelude.{get_or, not, true, false}
 use Rattle.std.specs.Str.{bytes_eq}
 use Rattle.std.proofs.lemmas.Slice.Eq.{bytes_eq-Decides}
 
