@@ -96,7 +96,7 @@ const UNMAPPED: Files = Files {
     views: "{\"version\":1,\"text\":\"112f1d98c59ed0ac8da1c87be926f65603278585db284c1cdfab0234f4b78611\",\"shared\":[],\"apps\":[{\"name\":\"sh\",\"functions\":[0]}]}",
 };
 
-/// Two ranges of text, a page apart. At the first byte of either, `low` and `high`: c.li a7, 8. From the 12th byte of the
+/// Two ranges of text, a page apart. At the first byte of either, `low` and `high`: c.li a7, 8. From offset 12 of the
 /// second range on, `main`, where the run begins. vCPU 0 maps its own page and the page at 0x80001000, the latter to the
 /// first range, and jumps there. vCPU 1 maps the page at 0x80001000 to the second range. The app was seen to use `main` alone.
 ///

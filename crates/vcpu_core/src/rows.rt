@@ -116,6 +116,8 @@ fn hold(held: &mut ArrayVec<Window, 4>, window: Window)
 }
 
 /// Takes the window of the line that the lane wants, of its view as it is.
+#[cold]
+#[inline(never)]
 pub fn fill(view: &View, lane: &mut Lane)
     requires phase { IsWanting lane.old.phase }
     requires view { view.now.number ≡ lane.old.windows.view }
@@ -133,6 +135,8 @@ pub fn fill(view: &View, lane: &mut Lane)
 }
 
 /// Looks up the group of the lane's trap.
+#[cold]
+#[inline(never)]
 pub fn look_up(table: &Table, lane: &mut Lane)
     requires phase { IsTrapped lane.old.phase }
     requires placed { IsPlaced table.now lane.old lane.old.phase }
@@ -147,6 +151,8 @@ pub fn look_up(table: &Table, lane: &mut Lane)
 
 /// Restores and logs the group that the lane asks for, where it is absent. Either way the lane's windows are dropped, and
 /// the group's range becomes its cleared range.
+#[cold]
+#[inline(never)]
 pub fn mend(view: &mut View, table: &Table, lane: &mut Lane) -> Patched
     requires phase { IsLooked lane.old.phase }
     requires view { view.old.number ≡ lane.old.windows.view }
