@@ -175,7 +175,7 @@ module _ (c : Config) (h : List ℕ) (i : ℕ) (t : Tally) (is : IsTally c h t) 
             subst (HasAll (IsUsedUnder c (h ++ i ∷ []) (slice_index_or t.names.items k []))) (sym its)
             (kept c h i (under_name k) (set_of t.used.items k) (is.used k within)
             (λ q f. let equal : slice_index_or t.names.items k [] ≡ name = let x : Some (slice_index_or t.names.items k []) ≡ Some name = sym f.named ∙ named in cc in
-              differ t.names.items a k name found.0 within other (λ x y low high. apart_from_distinct bytes_eq t.names.items x y [] is.once low high) found.1 equal))
+            differ t.names.items a k name found.0 within other (λ x y low high. apart_from_distinct bytes_eq t.names.items x y [] is.once low high) found.1 equal))
       ] refl in
       record {
         shared = subst (HasAll (IsShared c (h ++ i ∷ []))) (sym adds.4) (shared-kept shallow);

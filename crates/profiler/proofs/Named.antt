@@ -157,22 +157,22 @@ module _ (begins : FullStepsBegin) (leaves : StepsLeaveOthers) (appends : RunsAp
             shared = rw l.shared sets_now.shared;
             long = rw (l.used, names) (omega (arith, long, long_used, m_long, same_long));
             used = rw (l.used, names) (λ k within. elim (nat_lt k (length t.names.items)) as (λ b. nat_lt k (length t.names.items) ≡ b
-              → HasAll (IsUsedUnder c more (slice_index_or (t.names.items ++ name ∷ []) k [])) (set_of (m.used.items ++ no_starts ∷ []) k)) [
-                | true ↦ λ e.
-                    let low : k < length t.names.items = grind (arith, nat_tests, e) in
-                    let low_m : k < length m.names.items = omega (arith, low, same_long) in
-                    let low_used : k < length m.used.items = omega (arith, low_m, m_long) in
-                    let a : slice_index_or (t.names.items ++ name ∷ []) k [] ≡ slice_index_or m.names.items k [] =
-                    get_or_append_left t.names.items (name ∷ []) [] k low ∙ ap (λ xs. slice_index_or xs k []) (sym same-names) in
-                    let b : set_of (m.used.items ++ no_starts ∷ []) k ≡ set_of m.used.items k = get_or_append_left m.used.items (no_starts ∷ []) no_starts k low_used in
-                    rw (a, b) (sets_now.used k low_m)
-                | false ↦ λ e.
-                    let last : k ≡ length t.names.items = let over : length t.names.items ≤ k = grind (arith, nat_tests, e) in omega (arith, over, within, long) in
-                    let last_used : k ≡ length m.used.items = omega (arith, last, same_long, m_long) in
-                    let a : slice_index_or (t.names.items ++ name ∷ []) k [] ≡ name = ap (λ n. slice_index_or (t.names.items ++ name ∷ []) n []) last ∙ get_or-append_seam t.names.items name [] [] in
-                    let b : set_of (m.used.items ++ no_starts ∷ []) k ≡ no_starts = ap (λ n. set_of (m.used.items ++ no_starts ∷ []) n) last_used ∙ get_or-append_seam m.used.items no_starts [] no_starts in
-                    rw (a, b) (λ q. ((λ e. absurd (let x : false ≡ true = e in cc)), λ used. absurd (unused fresh q used)))
-              ] refl);
+                → HasAll (IsUsedUnder c more (slice_index_or (t.names.items ++ name ∷ []) k [])) (set_of (m.used.items ++ no_starts ∷ []) k)) [
+                  | true ↦ λ e.
+                      let low : k < length t.names.items = grind (arith, nat_tests, e) in
+                      let low_m : k < length m.names.items = omega (arith, low, same_long) in
+                      let low_used : k < length m.used.items = omega (arith, low_m, m_long) in
+                      let a : slice_index_or (t.names.items ++ name ∷ []) k [] ≡ slice_index_or m.names.items k [] =
+                      get_or_append_left t.names.items (name ∷ []) [] k low ∙ ap (λ xs. slice_index_or xs k []) (sym same-names) in
+                      let b : set_of (m.used.items ++ no_starts ∷ []) k ≡ set_of m.used.items k = get_or_append_left m.used.items (no_starts ∷ []) no_starts k low_used in
+                      rw (a, b) (sets_now.used k low_m)
+                  | false ↦ λ e.
+                      let last : k ≡ length t.names.items = let over : length t.names.items ≤ k = grind (arith, nat_tests, e) in omega (arith, over, within, long) in
+                      let last_used : k ≡ length m.used.items = omega (arith, last, same_long, m_long) in
+                      let a : slice_index_or (t.names.items ++ name ∷ []) k [] ≡ name = ap (λ n. slice_index_or (t.names.items ++ name ∷ []) n []) last ∙ get_or-append_seam t.names.items name [] [] in
+                      let b : set_of (m.used.items ++ no_starts ∷ []) k ≡ no_starts = ap (λ n. set_of (m.used.items ++ no_starts ∷ []) n) last_used ∙ get_or-append_seam m.used.items no_starts [] no_starts in
+                      rw (a, b) (λ q. ((λ e. absurd (let x : false ≡ true = e in cc)), λ used. absurd (unused fresh q used)))
+                ] refl);
             once = subst (IsDistinct bytes_eq) (sym names) (IsDistinct-push nat_list_eq_equiv t.names.items name is.once (any-flips t.names.items name ∙ fresh));
             met = rw names (λ q. (
               (λ e. elim (or-either (has_name t.names.items q) (bytes_eq name q) (sym (has-more t.names.items name q) ∙ e)) [
@@ -186,8 +186,8 @@ module _ (begins : FullStepsBegin) (leaves : StepsLeaveOthers) (appends : RunsAp
             ));
             few = rw names (let room = l.room in omega (arith, long, room, same_long));
             known = rw names (known-more (λ q. has_name (t.names.items ++ name ∷ []) q ≡ true)
-              (λ q e. has-more t.names.items name q ∙ or-left (has_name t.names.items q) (bytes_eq name q) e)
-              (λ q e. has-more t.names.items name q ∙ or-right (has_name t.names.items q) (bytes_eq name q) (only q e)));
+                (λ q e. has-more t.names.items name q ∙ or-left (has_name t.names.items q) (bytes_eq name q) e)
+                (λ q e. has-more t.names.items name q ∙ or-right (has_name t.names.items q) (bytes_eq name q) (only q e)));
           }
 
       pub too-many : (has_name m.names.items name ≡ false) × (APPS_MOST ≤ length m.names.items) → MeetsTooMany c more

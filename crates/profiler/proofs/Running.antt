@@ -81,9 +81,9 @@ module _ (begins : FullStepsBegin) (leaves : StepsLeaveOthers) (appends : RunsAp
       by-name (Some n) e meets = elim meets [
         | inl (known, same) ↦ subst (IsTally c (h ++ i ∷ [])) (sym same)
             (same-tally begins leaves appends c h i t is adds.between adds.fetch (λ name named.
-              let x : Some n ≡ Some name = sym e ∙ named in
-              let one : n ≡ name = cc in
-              subst (λ q. has_name t.names.items q ≡ true) one (ap (λ (names : List (List ℕ)). has_name names n) (sym (between-same adds.between adds.fetch)) ∙ known)))
+            let x : Some n ≡ Some name = sym e ∙ named in
+            let one : n ≡ name = cc in
+            subst (λ q. has_name t.names.items q ≡ true) one (ap (λ (names : List (List ℕ)). has_name names n) (sym (between-same adds.between adds.fetch)) ∙ known)))
         | inr l ↦ longer-tally begins leaves appends c h i t is adds.between adds.fetch n e u l
       ]
 
@@ -190,9 +190,9 @@ module _ (image : Image) (setup : Setup) (u : Tally) (shared : u.shared ≡ no_s
         once = subst (IsDistinct bytes_eq) (sym un) (IsDistinct-push nat_list_eq_equiv [] n no-names refl);
         met = λ name. (
           (λ z.
-            let x : (bytes_eq n name || false) ≡ true = subst (λ xs. has_name xs name ≡ true) un z in
-            let same : bytes_eq n name ≡ true = grind (arith, x) in
-            inl (e ∙ ap (λ q. Some q) ((bytes_eq-Decides n name).0 same))),
+              let x : (bytes_eq n name || false) ≡ true = subst (λ xs. has_name xs name ≡ true) un z in
+              let same : bytes_eq n name ≡ true = grind (arith, x) in
+              inl (e ∙ ap (λ q. Some q) ((bytes_eq-Decides n name).0 same))),
           λ met. elim met [
             | inl start ↦ subst (λ xs. has_name xs name ≡ true) (sym un) (is name start)
             | inr some ↦ absurd (none-yet c (IsNamedNext c name) some)

@@ -17,7 +17,9 @@ use fc_numbers::memory::NoMemory;
 use fc_numbers::places::{Gpa, VcpuNo};
 use function_table::table::Table;
 use guest_board::board::{Board, Full};
-use guest_board::laws::{full_steps_begin, idle_runs_have_ended, steps_count_one, steps_leave_others};
+use guest_board::laws::{
+    full_steps_begin, idle_runs_have_ended, steps_count_one, steps_leave_others,
+};
 use guest_input::image::{Function, Image, Start};
 use guest_input::setup::Setup;
 use run_evidence::laws::{boards_move, runs_append};

@@ -1,17 +1,20 @@
 -- A function of a table starts in text, and its group is that of its place.
-use Rattle.std.proofs.Common.{◌≡◌, ℕ, ◌<◌, ◌&&◌, Bool, true, false, List, [], ◌∷◌, arith, refl, ◌∙◌, ap}
-use Rattle.std.specs.Prelude.{◌==◌, if◌then◌else◌, Option, Some, None}
+use Rattle.std.proofs.Common.{◌≡◌, ℕ, zero, suc, length, ◌≤◌, ◌<◌, ◌&&◌, Bool, true, false, List, [], ◌∷◌, arith, refl, sym, subst, ◌∙◌, ap}
+use Rattle.std.specs.Prelude.{All, ◌||◌, map, slice_index_or, ◌==◌, if◌then◌else◌, Option, Some, None}
 use Rattle.std.specs.List.{list_any}
 use Rattle.std.proofs.lemmas.Option.{same_Some}
 use Rattle.std.proofs.lemmas.Bool.Decides.{nat_tests}
 use Rattle.fc_numbers.specs.declared.places.Span.{Span}
 use Rattle.fc_numbers.specs.declared.places.TheConstants.{RAM_START}
-use Rattle.fc_numbers.specs.Spans.{place_in, text_size}
+use Rattle.fc_numbers.specs.Spans.{place_in, size_of, text_size}
+use Rattle.fc_numbers.specs.declared.spans.TheConstants.{TEXT_MOST}
 use Rattle.fc_numbers.specs.SpanLaws.{OffsetOfPlace, PlacesAreInText}
+use Rattle.guest_input.specs.declared.image.Function.{Function}
+use Rattle.guest_input.specs.declared.image.Image.{Image}
 use Rattle.guest_input.specs.declared.image.Start.{Start}
-use Rattle.guest_input.specs.Accepted.{IsAscendingFrom, IsStarts}
-use Rattle.guest_input.specs.Text.{flat_of}
-use Rattle.function_table.specs.Groups.{Groups, IsGroups, group_at, group_in, has_start, in_text, is_function}
+use Rattle.guest_input.specs.Accepted.{IsAscendingFrom, IsImage, IsStarts, starts_of}
+use Rattle.guest_input.specs.Text.{IsStartIn, flat_of, spans_of}
+use Rattle.function_table.specs.Groups.{Groups, IsGroups, group_at, group_in, groups_of, last_of, range_of, has_start, in_text, is_function}
 use Rattle.view_file.specs.Base.{group_of_start}
 
 abbrev is_one : List ℕ → ℕ → Bool
@@ -68,3 +71,41 @@ answered_group offsets inside t at offset spans place answer good one is text th
     let group : group_at t (place_in t.text (flat_of t.text at)) ≡ group_of_start t at = ap (λ o. group_in t.starts o) (offsets t.text RAM_START (flat_of t.text at) good.text.ranges below) in
     found ∙ ap (λ p. if in_text t p then Some (group_at t p) else None) here
     ∙ ap (λ b. if b then Some (group_at t (place_in t.text (flat_of t.text at))) else None) within ∙ ap (λ g. Some g) group
+
+last-high : (low size g : ℕ) (bs : List ℕ) → IsAscendingFrom low bs size → slice_index_or bs g size ≤ size
+last-high low size g [] up = omega arith
+last-high low size zero (b ∷ bs) up = let rest : b < size = low_below b size bs up.2 in omega (arith, rest)
+last-high low size (suc g) (b ∷ bs) up = last-high b size g bs up.2
+
+-- a group has no more bytes than text may have
+pub group-size : (t : Groups) (g : ℕ) → IsGroups t → size_of (range_of t g) ≤ TEXT_MOST
+group-size t g good =
+    let high : last_of t g ≤ text_size t.text = last-high 0 (text_size t.text) g t.starts good.starts in
+    let most = good.text.size in
+    omega (arith, high, most)
+
+any-at : (text : List Span) (fs : List Function) (k : ℕ) (d : Function) → k < length fs → list_any (λ start. start == flat_of text (slice_index_or fs k d).at) (map (flat_of text) (starts_of fs)) ≡ true
+any-at text [] k d within = absurd (omega (arith, within))
+any-at text (f ∷ fs) zero d within = let same : (flat_of text f.at == flat_of text f.at) ≡ true = grind (arith, nat_tests) in rw same refl
+any-at text (f ∷ fs) (suc k) d within = or-right (flat_of text f.at == flat_of text (slice_index_or fs k d).at) _ (any-at text fs k d (omega (arith, within)))
+  where
+    or-right : (a b : Bool) → b ≡ true → (a || b) ≡ true
+    or-right true b e = refl
+    or-right false b e = e
+
+start-at : (text : List Span) (fs : List Function) (k : ℕ) (d : Function) → All (IsStartIn text) (starts_of fs) → k < length fs → IsStartIn text (slice_index_or fs k d).at
+start-at text [] k d all within = absurd (omega (arith, within))
+start-at text (f ∷ fs) zero d all within = all 0 f.at (omega arith)
+start-at text (f ∷ fs) (suc k) d all within = start-at text fs k d (λ j e low. all (suc j) e (omega (arith, low))) (omega (arith, within))
+
+-- each function of an image starts where one does
+pub image-known : (i : Image) → IsImage i → (k : ℕ) (d : Function) → k < length i.functions → is_function (groups_of i) (slice_index_or i.functions k d).at ≡ true
+image-known i image k d within =
+    let inside : IsStartIn (spans_of i.ranges) (slice_index_or i.functions k d).at = start-at (spans_of i.ranges) i.functions k d image.inside within in
+    let low = inside.inside in
+    let has : has_start (spans_of i.ranges) (slice_index_or i.functions k d).at ≡ true = grind (arith, nat_tests, low) in
+    rw (has, any-at (spans_of i.ranges) i.functions k d within) refl
+
+pub group-few : (t : Groups) (g bytes : ℕ) (b : Bool) → IsGroups t → bytes ≡ (if b then size_of (range_of t g) else 0) → bytes ≤ TEXT_MOST
+group-few t g bytes true good is = subst (λ n. n ≤ TEXT_MOST) (sym is) (group-size t g good)
+group-few t g bytes false good is = omega (arith, is)

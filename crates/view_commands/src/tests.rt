@@ -2,6 +2,7 @@
 
 use crate::merge::{is_merge, make_merge};
 use crate::profile::{is_profile, make_profile};
+use crate::show::{is_show, make_show};
 use command_frame::finish::finish;
 use command_frame::line::tell;
 use command_frame::product::{Product, Refusal};
@@ -33,8 +34,7 @@ const PUT_FUNCTIONS: &str = "[2147483648,\"main\"],[2147483660,\"put\"]";
 const HANDLED: &str =
     "970200009382c201739052101303002073104310736001106f00c0007310401073002010a14873000000";
 
-const HANDLED_FUNCTIONS: &str =
-    "[2147483648,\"main\"],[2147483676,\"hand\"],[2147483684,\"m\"]";
+const HANDLED_FUNCTIONS: &str = "[2147483648,\"main\"],[2147483676,\"hand\"],[2147483684,\"m\"]";
 
 /// auipc a1,0; addi a1,a1,24; jal ra,hook; then `end`: li a7,8; ecall; nop; then `hook`: ret; nop; the name stands behind.
 const SWITCH: &str = "9705000093858501ef00c000a14873000000010082800100";
@@ -42,8 +42,7 @@ const SWITCH: &str = "9705000093858501ef00c000a14873000000010082800100";
 /// The same, but that `main` goes on to the next name: a1 is 2 more, and the hook is called again.
 const SWITCHES: &str = "9705000093858501ef00c00089056ff0bfff010082800100";
 
-const SWITCH_FUNCTIONS: &str =
-    "[2147483648,\"main\"],[2147483660,\"end\"],[2147483668,\"hook\"]";
+const SWITCH_FUNCTIONS: &str = "[2147483648,\"main\"],[2147483660,\"end\"],[2147483668,\"hook\"]";
 
 const SWITCHES_FUNCTIONS: &str = "[2147483648,\"main\"],[2147483668,\"hook\"]";
 
@@ -210,16 +209,15 @@ fn words_of(alloc: Global, words: &[&str]) -> Result<Vec<String>, Fail> {
 }
 
 /// What the words ask for.
-fn make(
-    alloc: Global,
-    words: &[String],
-    store: &mut MemStore,
-) -> Result<Product, Refusal> {
+fn make(alloc: Global, words: &[String], store: &mut MemStore) -> Result<Product, Refusal> {
     if is_profile(words) {
         return make_profile(alloc, words, store);
     }
     if is_merge(words) {
         return make_merge(alloc, words, store);
+    }
+    if is_show(words) {
+        return make_show(alloc, words, store);
     }
     Err(Refusal::NoMemory)
 }
@@ -262,7 +260,10 @@ fn profiles_are_as_worked_out(rt: HostRuntime) -> Result<(), Fail> {
         assert!(rt; came.err.bytes() == row.line, "{label}: line");
         if let Some(apps) = row.apps {
             let wanted = views_of(alloc, image.as_bytes(), apps, row.shared, "2")?;
-            assert!(rt; came.store.bytes("out") == Some(wanted.as_bytes()), "{label}: views");
+            assert!(rt;
+                came.store.bytes("out") == Some(wanted.as_bytes()),
+                "{label}: views"
+            );
         }
     }
     Ok(())
@@ -274,8 +275,7 @@ fn names_at_the_hook_have_their_own_functions(rt: HostRuntime) -> Result<(), Fai
     for row in switches() {
         let label = row.label;
         let image = image_of(alloc, row.text, row.names, row.functions)?;
-        let setup =
-            b"{\"ram\":65536,\"vcpus\":1,\"steps\":200,\"start\":\"sh\",\"hook\":\"hook\"}";
+        let setup = b"{\"ram\":65536,\"vcpus\":1,\"steps\":200,\"start\":\"sh\",\"hook\":\"hook\"}";
         let came = call(
             alloc,
             &["profile", "a", "b", "out"],
@@ -306,9 +306,11 @@ struct Merged {
     apps: Option<&'static str>,
 }
 
-const EIGHT: &str = "{\"name\":\"a\",\"functions\":[]},{\"name\":\"b\",\"functions\":[]},{\"name\":\"c\",\"functions\":[]},{\"name\":\"d\",\"functions\":[]},{\"name\":\"e\",\"functions\":[]},{\"name\":\"f\",\"functions\":[]},{\"name\":\"g\",\"functions\":[]},{\"name\":\"h\",\"functions\":[]}";
+const EIGHT: &str =
+    "{\"name\":\"a\",\"functions\":[]},{\"name\":\"b\",\"functions\":[]},{\"name\":\"c\",\"functions\":[]},{\"name\":\"d\",\"functions\":[]},{\"name\":\"e\",\"functions\":[]},{\"name\":\"f\",\"functions\":[]},{\"name\":\"g\",\"functions\":[]},{\"name\":\"h\",\"functions\":[]}";
 
-const OTHER_EIGHT: &str = "{\"name\":\"A\",\"functions\":[]},{\"name\":\"B\",\"functions\":[]},{\"name\":\"C\",\"functions\":[]},{\"name\":\"D\",\"functions\":[]},{\"name\":\"E\",\"functions\":[]},{\"name\":\"F\",\"functions\":[]},{\"name\":\"G\",\"functions\":[]},{\"name\":\"H\",\"functions\":[]}";
+const OTHER_EIGHT: &str =
+    "{\"name\":\"A\",\"functions\":[]},{\"name\":\"B\",\"functions\":[]},{\"name\":\"C\",\"functions\":[]},{\"name\":\"D\",\"functions\":[]},{\"name\":\"E\",\"functions\":[]},{\"name\":\"F\",\"functions\":[]},{\"name\":\"G\",\"functions\":[]},{\"name\":\"H\",\"functions\":[]}";
 
 static MERGED: [Merged; 3] = [
     Merged {
@@ -371,5 +373,66 @@ fn unions_are_as_worked_out(rt: HostRuntime) -> Result<(), Fail> {
         let views = wanted.as_ref().map(|text| text.as_bytes());
         assert!(rt; came.store.bytes("out") == views, "{label}: views");
     }
+    Ok(())
+}
+
+/// A function that ends in a halfword with low bits 11 and the next are one group: `f` and `g` behind PUT.
+const JOINED: &str = "67808280";
+
+const JOINED_FUNCTIONS: &str = "[2147483648,\"main\"],[2147483660,\"f\"],[2147483674,\"g\"]";
+
+#[test]
+fn sizes_count_whole_groups(rt: HostRuntime) -> Result<(), Fail> {
+    let alloc = rt.alloc();
+    let image = image_of(alloc, PUT, "", PUT_FUNCTIONS)?;
+    let sh = views_of(
+        alloc,
+        image.as_bytes(),
+        "{\"name\":\"sh\",\"functions\":[0]}",
+        "",
+        "1",
+    )?;
+    let came = call(alloc, &["show", "a", "b"], image.as_bytes(), sh.as_bytes())?;
+    assert_eq!(rt; came.status, 0, "one of two functions: status");
+    assert!(rt;
+        came.out.bytes() == b"text 2 2 4096\nsh 1 1 12\n".as_slice(),
+        "one of two functions: sizes"
+    );
+    let joined = image_of(alloc, PUT, JOINED, JOINED_FUNCTIONS)?;
+    let second = views_of(
+        alloc,
+        joined.as_bytes(),
+        "{\"name\":\"sh\",\"functions\":[26]}",
+        "",
+        "1",
+    )?;
+    let came = call(
+        alloc,
+        &["show", "a", "b"],
+        joined.as_bytes(),
+        second.as_bytes(),
+    )?;
+    assert!(rt;
+        came.out.bytes() == b"text 3 2 4096\nsh 2 1 4084\n".as_slice(),
+        "one of two joined functions: sizes"
+    );
+    let unknown = views_of(
+        alloc,
+        image.as_bytes(),
+        "{\"name\":\"sh\",\"functions\":[2]}",
+        "",
+        "1",
+    )?;
+    let came = call(
+        alloc,
+        &["show", "a", "b"],
+        image.as_bytes(),
+        unknown.as_bytes(),
+    )?;
+    assert_eq!(rt; came.status, 5, "an unknown function: status");
+    assert!(rt;
+        came.err.bytes() == b"5 views 4 UnknownFunction 0 2\n".as_slice(),
+        "an unknown function: line"
+    );
     Ok(())
 }
