@@ -5,10 +5,10 @@ use Rattle.vcpu_crew.proofs.Finishing.{over_stops}
 use Rattle.vcpu_crew.proofs.crew.make_rounds.Goals as goal
 
 pub round-requires-clause-same : goal.round-requires-clause-same
-round-requires-clause-same g c = c.loop.invariant.2 ∙ c.requires.same
+round-requires-clause-same g c = λ κs k. c.loop.invariant.2 ∙ c.requires.same
 
 pub round-requires-clause-worker : goal.round-requires-clause-worker
-round-requires-clause-worker g c = c.loop.invariant.3
+round-requires-clause-worker g c = λ κs k. c.loop.invariant.3
 
 pub returns-in-Over-clause-stopped : goal.returns-in-Over-clause-stopped
 returns-in-Over-clause-stopped g c =
