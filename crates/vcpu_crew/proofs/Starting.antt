@@ -169,4 +169,4 @@ worker_at t k (w ∷ ws) a zero d lt = let e = first_long t (suc k) ws a.2 in le
 worker_at t k (w ∷ ws) a (suc i) d lt = let same : suc k + i ≡ k + suc i = omega arith in subst (λ (n : ℕ). IsWorker t n (slice_index_or ws i d)) same (worker_at t (suc k) ws a.2 i d (omega arith))
 
 pub workers_are : (t : Turns) (ws : List (Pass × Lane)) → AreFirst t 0 ws → AreWorkers t ws
-workers_are t ws a i d lt = worker_at t 0 ws a i d lt
+workers_are t ws a i d lt = let z : 0 + i ≡ i = omega arith in subst (λ (n : ℕ). IsWorker t n (slice_index_or ws i d)) z (worker_at t 0 ws a i d lt)

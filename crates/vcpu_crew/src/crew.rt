@@ -98,11 +98,13 @@ fn joined(turns: &Turns, mut workers: Vec<(Pass, Lane)>) -> Pass
     ensures same { IsPassOf turns.now result }
     ensures run { HasRunAll (config_in turns.now) (length workers.items) (known result) }
 {
-    let Some((mut all, _)) = workers.pop() else {
+    let Some(worker) = workers.pop() else {
         unreachable!()
     };
-    for (pass, _) in workers {
-        turns.join(&mut all, pass);
+    let mut all = worker.0;
+    let last = workers.len();
+    for worker in workers {
+        turns.join(&mut all, worker.0);
     }
     all
 }
