@@ -1,3 +1,2 @@
 pub mod Rig
 pub mod Round
-pub mod Crew
