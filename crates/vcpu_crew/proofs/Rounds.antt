@@ -1,5 +1,5 @@
 -- One round of a worker, by the phase of its lane.
-use Rattle.std.proofs.Common.{◌≡◌, ◌≢◌, ℕ, zero, suc, ◌+◌, ◌-◌, ◌*◌, ◌<◌, ◌≤◌, ◌==◌, true, false, Option, Some, None, List, [], ◌∷◌, ◌++◌, ◌⊎◌, inl, inr, length, set, replicate, sym, refl, ap, ◌∙◌, subst, arith, eq-eqb, length-append, length-set, get_or-set_same}
+use Rattle.std.proofs.Common.{◌≡◌, ◌≢◌, ℕ, zero, suc, ◌+◌, ◌-◌, ◌<◌, ◌==◌, Option, Some, None, List, [], ◌∷◌, ◌++◌, ◌⊎◌, inl, inr, length, set, replicate, sym, refl, ap, ◌∙◌, subst, arith, eq-eqb, length-append, get_or-set_same}
 use Rattle.std.specs.Prelude.{if◌then◌else◌}
 use Rattle.std.proofs.lemmas.List.{append-nil, get_or-set_other}
 use mathlib.Core.Logic.{dite}
@@ -26,7 +26,7 @@ use Rattle.vcpu_core.specs.declared.lane.Phase.TheVariants.{Running, Wants, Trap
 use Rattle.vcpu_core.specs.declared.lane.Turned.{Turned}
 use Rattle.vcpu_core.specs.Placed.{IsPlaced}
 use Rattle.vcpu_core.specs.Lanes.{IsLooked, IsTrapped, IsWanting, fill_row, look_row, mend_row, mend_view}
-use Rattle.vcpu_core.specs.Rows.{AreAllowedSteps, AreOfOthers, FillKeeps, TurnsKeep, LookKeeps, MendKeeps, IsMended, IsNewEntry, IsPatched}
+use Rattle.vcpu_core.specs.Rows.{AreAllowedSteps, AreOfOthers, FillKeeps, TurnsKeep, LookKeeps, MendKeeps, IsMended, IsPatched}
 use Rattle.vcpu_core.specs.Truthful.{IsTruthful, IsOfView}
 use Rattle.vcpu_core.specs.Turns.{turns_of}
 use Rattle.vcpu_core.specs.Stages.{AreStagesFor}

@@ -1,9 +1,8 @@
 -- What a round of a worker does to its pass and its lane.
 -- The rule: a running lane makes a turn on the board as it is taken, and the steps are added to the schedule seen; a lane
 -- that wants a line takes its window of the view as it is taken; a trap is looked up; a mend is of the view as it is taken.
-use Rattle.std.specs.Prelude.{◌≡◌, ℕ, ◌<◌, ◌++◌, Some, None, List, length, replicate, slice_set}
+use Rattle.std.specs.Prelude.{◌≡◌, ℕ, ◌<◌, ◌++◌, Some, None, List, replicate, slice_set}
 use Rattle.chain_log.specs.declared.entry.LogEntry.{LogEntry}
-use Rattle.view_store.specs.Paged.{PagedView}
 use Rattle.run_evidence.specs.Config.{Config, groups_in}
 use Rattle.run_evidence.specs.Evidence.{log_in}
 use Rattle.run_evidence.specs.Growing.{Begins, board_of, paged_at}

@@ -1,4 +1,4 @@
-use Rattle.std.proofs.Common.{◌≡◌, ap, ◌∙◌}
+use Rattle.std.proofs.Common.{ap, ◌∙◌}
 use Rattle.vcpu_crew.specs.Rig.{config_of_shared}
 use Rattle.vcpu_crew.proofs.Rounds.{look_between, look_did, look_vcpu, table_placed}
 use Rattle.vcpu_crew.proofs.round.look_trap.Goals as goal

@@ -1,4 +1,4 @@
-use Rattle.std.proofs.Common.{◌≡◌, ◌+◌, List, length, sym, subst, ◌∙◌}
+use Rattle.std.proofs.Common.{◌+◌, List, length, sym, subst}
 use Rattle.gstage.specs.Table.{Table}
 use Rattle.vcpu_core.specs.Stages.{AreStagesFor}
 use Rattle.run_evidence.specs.Config.{Config}

@@ -1,4 +1,4 @@
-use Rattle.std.proofs.Common.{◌≡◌, sym, ap, subst, ◌∙◌}
+use Rattle.std.proofs.Common.{sym, ap, ◌∙◌}
 use Rattle.run_evidence.specs.Config.{Config}
 use Rattle.vcpu_crew.specs.Rig.{config_of_shared}
 use Rattle.vcpu_crew.proofs.Rounds.{looked_stands, mend_between, mend_did, mend_gives, mend_vcpu, mended_round, view_below, table_placed}

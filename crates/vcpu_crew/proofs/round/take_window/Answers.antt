@@ -1,8 +1,4 @@
-use Rattle.std.proofs.Common.{◌≡◌, sym, ap, subst, ◌∙◌}
-use Rattle.run_evidence.specs.Config.{Config}
-use Rattle.vcpu_core.specs.declared.lane.Phase.{Phase}
-use Rattle.vcpu_core.specs.declared.lane.Phase.TheVariants.{Running}
-use Rattle.vcpu_core.specs.Lanes.{IsWanting}
+use Rattle.std.proofs.Common.{ap, ◌∙◌}
 use Rattle.vcpu_crew.specs.Rig.{config_of_shared}
 use Rattle.vcpu_crew.proofs.Rounds.{fill_between, fill_did, fill_placed, filled_round, same_gives, view_below, wanting_stands}
 use Rattle.vcpu_crew.proofs.round.take_window.Goals as goal
