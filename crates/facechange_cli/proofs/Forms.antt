@@ -4,15 +4,10 @@ use Rattle.std.specs.Prelude.{get_or}
 use Rattle.guest_input.specs.declared.setup.Setup.{Setup}
 use Rattle.guest_input.specs.declared.limits.TheConstants.{STEPS_MOST}
 use Rattle.facechange_cli.specs.Words.{IsTry, IsDriveForm, IsNoForm}
-<<<<<<< HEAD
-use Rattle.facechange_cli.specs.declared.words.Command.{Command}
 use Rattle.listing_commands.specs.Words.{IsListForm, IsSurfaceForm}
 use Rattle.replay_command.specs.Replay.{IsReplayForm}
 use Rattle.view_commands.specs.Words.{IsProfileForm, IsMergeForm}
 use Rattle.facechange_cli.specs.declared.words.Command.TheVariants.{Try, Drive, Profile, Merge, Replay, List as Listing, Surface}
-=======
-use Rattle.facechange_cli.specs.declared.words.Command.TheVariants.{Try, Drive}
->>>>>>> 80fb1fda5416f75b69dfea4abe07db1baaf20a1d
 
 pub no_form : (words : List (List ℕ)) → ((setup : Setup) → IsTry words setup → ⊥) → (IsDriveForm words → ⊥) → (IsProfileForm words → ⊥) → (IsMergeForm words → ⊥)
     → (IsReplayForm words → ⊥) → (IsSurfaceForm words → ⊥) → ((app : List ℕ) → IsListForm words app → ⊥) → IsNoForm words

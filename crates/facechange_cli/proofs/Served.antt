@@ -1,9 +1,5 @@
 -- The frame's laws, at every command.
-<<<<<<< HEAD
 use Rattle.std.proofs.Common.{◌≡◌, ℕ, Some, List, ◌⊎◌, inl, inr, refl, false}
-=======
-use Rattle.std.proofs.Common.{ℕ, List, inl, inr}
->>>>>>> 80fb1fda5416f75b69dfea4abe07db1baaf20a1d
 use Rattle.guest_input.specs.declared.image.Image.{Image}
 use Rattle.guest_input.specs.declared.setup.Setup.{Setup}
 use Rattle.view_file.specs.declared.views.Views.{Views}

@@ -19,9 +19,9 @@ use fc_outside::outside::{Sink, Store};
 use listing_commands::list::make_list;
 use listing_commands::surface::make_surface;
 use replay_command::replay::make_replay;
+use std::alloc::Global;
 use view_commands::merge::make_merge;
 use view_commands::profile::make_profile;
-use std::alloc::Global;
 
 /// What the command makes of its input files, or why it makes nothing.
 fn make<S: Store>(
