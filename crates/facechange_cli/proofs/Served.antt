@@ -12,7 +12,7 @@ use Rattle.command_frame.proofs.Exact.{accepted-files, refused-files}
 use Rattle.facechange_cli.specs.Requests.{promise_of, request_of}
 use Rattle.facechange_cli.specs.Served.{AcceptedFilesAreServed, RefusedFilesAreAnswered, makes_always}
 use Rattle.facechange_cli.specs.declared.words.Command.{Command}
-use Rattle.facechange_cli.specs.declared.words.Command.TheVariants.{Try, Drive, Profile, Merge, Replay, List as Listing, Surface}
+use Rattle.facechange_cli.specs.declared.words.Command.TheVariants.{Try, Drive, Profile, Merge, Show, Replay, List as Listing, Surface}
 
 -- each kind of file gives one thing or is refused for one reason
 pub record AllSure : Type 0 where
@@ -29,6 +29,7 @@ fails-where words at why (Try setup) k = absurd k.2.2
 fails-where words at why Drive k = absurd k.2.2.2.2
 fails-where words at why Profile k = refl
 fails-where words at why Merge k = refl
+fails-where words at why Show k = absurd k.2.2
 fails-where words at why Replay k = absurd k.2.2.2
 fails-where words at why (Listing app) k = absurd k.2.2
 fails-where words at why Surface k = absurd k.2.2
@@ -39,6 +40,7 @@ sure all (Try setup) = (all.image, λ i. (all.views i, λ v. tt))
 sure all Drive = (all.image, λ i. (all.setup i, λ s. (all.views i, λ v. (all.script s.vcpus, λ is. tt))))
 sure all Profile = (all.image, λ i. (all.setup i, λ s. tt))
 sure all Merge = (all.free, λ a. (all.free, λ b. tt))
+sure all Show = (all.image, λ i. (all.views i, λ v. tt))
 sure all Replay = (all.image, λ i. (all.setup i, λ s. (all.trace, λ t. tt)))
 sure all (Listing app) = (all.image, λ i. (all.views i, λ v. tt))
 sure all Surface = (all.image, λ i. (all.views i, λ v. tt))

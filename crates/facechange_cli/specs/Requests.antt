@@ -10,8 +10,8 @@ use Rattle.command_frame.specs.declared.product.Product.{Product}
 use Rattle.facechange_cli.specs.declared.words.Command.{Command}
 use Rattle.listing_commands.specs.Requests.{list_inputs, list_outputs, list_promise, surface_inputs, surface_outputs, surface_promise}
 use Rattle.replay_command.specs.Replay.{replay_inputs, replay_outputs, replay_promise}
-use Rattle.view_commands.specs.Requests.{profile_inputs, profile_outputs, profile_promise, merge_inputs, merge_outputs, merge_promise}
-use Rattle.facechange_cli.specs.declared.words.Command.TheVariants.{Try, Drive, Profile, Merge, Replay, List as Listing, Surface}
+use Rattle.view_commands.specs.Requests.{profile_inputs, profile_outputs, profile_promise, merge_inputs, merge_outputs, merge_promise, show_inputs, show_outputs, show_promise}
+use Rattle.facechange_cli.specs.declared.words.Command.TheVariants.{Try, Drive, Profile, Merge, Show, Replay, List as Listing, Surface}
 use Rattle.trace_file.specs.Trace.{Told, text_of}
 use Rattle.guest_runs.specs.Alone.{IsRunOf}
 use Rattle.guest_runs.specs.Driven.{IsDriven}
@@ -42,6 +42,7 @@ inputs_of (Try setup) = 1 ∷ 2 ∷ []
 inputs_of Drive = 1 ∷ 2 ∷ 3 ∷ 4 ∷ []
 inputs_of Profile = profile_inputs
 inputs_of Merge = merge_inputs
+inputs_of Show = show_inputs
 inputs_of Replay = replay_inputs
 inputs_of (Listing app) = list_inputs
 inputs_of Surface = surface_inputs
@@ -51,6 +52,7 @@ outputs_of (Try setup) = 5 ∷ []
 outputs_of Drive = 5 ∷ 6 ∷ []
 outputs_of Profile = profile_outputs
 outputs_of Merge = merge_outputs
+outputs_of Show = show_outputs
 outputs_of Replay = replay_outputs
 outputs_of (Listing app) = list_outputs
 outputs_of Surface = surface_outputs
@@ -62,6 +64,7 @@ promise_of Drive = takes_image 1 (λ image. takes_setup 2 image (λ setup. takes
     makes (IsDrive (record { image = image; setup = setup; views = views }) script) (λ why. ⊥)))))
 promise_of Profile = profile_promise
 promise_of Merge = merge_promise
+promise_of Show = show_promise
 promise_of Replay = replay_promise
 promise_of (Listing app) = list_promise app
 promise_of Surface = surface_promise

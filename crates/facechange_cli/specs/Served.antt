@@ -8,7 +8,7 @@ use Rattle.command_frame.specs.declared.answer.Answer.{Answer}
 use Rattle.command_frame.specs.declared.answer.Answer.TheVariants.{NoMemory}
 use Rattle.facechange_cli.specs.Requests.{request_of}
 use Rattle.facechange_cli.specs.declared.words.Command.{Command}
-use Rattle.facechange_cli.specs.declared.words.Command.TheVariants.{Try, Drive, Profile, Merge, Replay, List as Listing, Surface}
+use Rattle.facechange_cli.specs.declared.words.Command.TheVariants.{Try, Drive, Profile, Merge, Show, Replay, List as Listing, Surface}
 
 -- whether the command has a product for all files that are accepted: a profile may meet too many names, and views may have no union
 abbrev pub makes_always : Command → Bool
@@ -16,6 +16,7 @@ makes_always (Try setup) = true
 makes_always Drive = true
 makes_always Profile = false
 makes_always Merge = false
+makes_always Show = true
 makes_always Replay = true
 makes_always (Listing app) = true
 makes_always Surface = true

@@ -8,8 +8,8 @@ use Rattle.facechange_cli.specs.Setups.{setup_for}
 use Rattle.facechange_cli.specs.declared.words.Command.{Command}
 use Rattle.listing_commands.specs.Words.{IsListForm, IsSurfaceForm}
 use Rattle.replay_command.specs.Replay.{IsReplayForm}
-use Rattle.view_commands.specs.Words.{IsProfileForm, IsMergeForm}
-use Rattle.facechange_cli.specs.declared.words.Command.TheVariants.{Try, Drive, Profile, Merge, Replay, List as Listing, Surface}
+use Rattle.view_commands.specs.Words.{IsProfileForm, IsMergeForm, IsShowForm}
+use Rattle.facechange_cli.specs.declared.words.Command.TheVariants.{Try, Drive, Profile, Merge, Show, Replay, List as Listing, Surface}
 
 -- the word begins with a digit that is not 0
 abbrev pub is_plain : List ℕ → Bool
@@ -45,6 +45,7 @@ IsForm words (Try setup) = IsTry words setup
 IsForm words Drive = IsDriveForm words
 IsForm words Profile = IsProfileForm words
 IsForm words Merge = IsMergeForm words
+IsForm words Show = IsShowForm words
 IsForm words Replay = IsReplayForm words
 IsForm words (Listing app) = IsListForm words app
 IsForm words Surface = IsSurfaceForm words

@@ -22,6 +22,7 @@ use replay_command::replay::make_replay;
 use std::alloc::Global;
 use view_commands::merge::make_merge;
 use view_commands::profile::make_profile;
+use view_commands::show::make_show;
 
 /// What the command makes of its input files, or why it makes nothing.
 fn make<S: Store>(
@@ -42,6 +43,7 @@ fn make<S: Store>(
         Command::Drive => make_drive(alloc, words, store),
         Command::Profile => make_profile(alloc, words, store),
         Command::Merge => make_merge(alloc, words, store),
+        Command::Show => make_show(alloc, words, store),
         Command::Replay => make_replay(alloc, words, store),
         Command::List(app) => make_list(alloc, words, app, store),
         Command::Surface => make_surface(alloc, words, store),
@@ -54,7 +56,7 @@ fn make<S: Store>(
 /// `drive IMAGE SETUP VIEWS SCRIPT TRACE LOG` runs a kernel on several vCPUs in the order of a script, and writes the trace
 /// of the run, its log, and what the guest wrote to `out`.
 /// `profile IMAGE SETUP OUT` runs the full kernel, vCPU after vCPU, and writes the views that the run shows; `merge A B OUT`
-/// writes the union of two views files.
+/// writes the union of two views files; `show IMAGE VIEWS` writes the sizes of the views to `out`.
 /// `replay IMAGE SETUP TRACE` runs the full kernel in the order of a trace, and compares: what the guest wrote goes to
 /// `out` where all is as the trace tells, and else the first difference is on the line.
 /// `list IMAGE VIEWS APP` writes the code that an app's view holds to `out`, instruction by instruction, and `surface IMAGE

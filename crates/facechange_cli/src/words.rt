@@ -16,6 +16,7 @@ use replay_command::replay::is_replay;
 use std::alloc::Global;
 use view_commands::merge::is_merge;
 use view_commands::profile::is_profile;
+use view_commands::show::is_show;
 
 /// A listed form of words, and what it asks for besides files.
 #[derive(Drop)]
@@ -29,6 +30,8 @@ pub enum Command {
     Profile,
     /// `merge A B OUT`: to write the union of two views files.
     Merge,
+    /// `show IMAGE VIEWS`: to print the sizes of the views.
+    Show,
     /// `replay IMAGE SETUP TRACE`: to run the image by the setup in the order of the trace, and to compare.
     Replay,
     /// `list IMAGE VIEWS APP`: to print the code that the view of this app holds.
@@ -102,6 +105,9 @@ pub fn command_of(alloc: Global, words: &[String]) -> Option<Command>
     }
     if is_merge(words) {
         return Some(Command::Merge);
+    }
+    if is_show(words) {
+        return Some(Command::Show);
     }
     if is_replay(words) {
         return Some(Command::Replay);
