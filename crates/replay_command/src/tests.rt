@@ -40,9 +40,9 @@ struct Row {
 /// The numbers of values.
 const RA: usize = 0;
 
-const T0: usize = 4;
+const FIRST_TEMPORARY: usize = 4;
 
-const T1: usize = 5;
+const SECOND_TEMPORARY: usize = 5;
 
 const A0: usize = 9;
 
@@ -306,8 +306,8 @@ static ROWS: [Row; 16] = [
         steps: 8,
         end: 5,
         values: &[
-            (T0, 0x8000_0000_0008_0002),
-            (T1, 0x8000_0000_0000_0000),
+            (FIRST_TEMPORARY, 0x8000_0000_0008_0002),
+            (SECOND_TEMPORARY, 0x8000_0000_0000_0000),
             (PC, 0x8000_0ffe),
             VS,
             UXL,
