@@ -5,6 +5,7 @@
 //! - [`memory`]: a store in memory that fails exactly where it is told to.
 //! - [`memory_sink`]: the same for a sink.
 //! - [`host`]: the host's files, standard output and standard error.
+//! - [`gate`]: what a worker passes before each of its rounds.
 //!
 //! Each trait promises the same of every object: what a call gave or left where the object tells its bytes, and that
 //! no fault is answered unless the object's own count of faults rose, with the name that was asked for. The objects
@@ -13,6 +14,7 @@
 #![tactic(auto)]
 
 pub mod faults;
+pub mod gate;
 pub mod host;
 pub mod memory;
 pub mod memory_sink;

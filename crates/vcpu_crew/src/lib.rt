@@ -1,6 +1,5 @@
 //! The crew: one worker for each vCPU, all at work at once on one board and its views.
 //!
-//! - [`gate`]: what a worker passes before each round.
 //! - [`rig`]: what the workers share, and each worker's pass and lane.
 //! - [`round`]: one round of a worker: a turn of steps, a fill, a lookup or a mend, between taking and giving back.
 //!
@@ -12,6 +11,5 @@
 //! table of board and views; above, the program.
 #![tactic(auto)]
 
-pub mod gate;
 pub mod rig;
 pub mod round;

@@ -9,8 +9,8 @@ ghost use Rattle.vcpu_crew.specs.declared.round.Rounded.{Rounded};
 ghost use Rattle.vcpu_crew.specs.Rig.{IsEquipped, config_of_shared};
 ghost use Rattle.vcpu_crew.specs.Round.{IsBetweenRounds, IsRound, answered};
 
-use crate::gate::Gate;
 use crate::rig::Shared;
+use fc_outside::gate::Gate;
 use std::sync::Wait;
 use turn_table::pass::Pass;
 use vcpu_core::lane::{Lane, Phase, Then};
