@@ -1,1 +1,4 @@
 pub mod Rounds
+pub mod Opening
+pub mod Finishing
+pub mod Starting

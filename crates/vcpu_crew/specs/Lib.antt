@@ -1,2 +1,3 @@
 pub mod Rig
 pub mod Round
+pub mod Crew

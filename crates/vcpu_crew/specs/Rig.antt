@@ -1,5 +1,5 @@
 -- What a rig is: what its workers share, and each worker before its first round.
-use Rattle.std.specs.Prelude.{◌≡◌, ◌≢◌, ℕ, suc, ◌+◌, Some, None, List, [], ◌∷◌, length}
+use Rattle.std.specs.Prelude.{◌≡◌, ◌≢◌, ℕ, suc, ◌+◌, ◌<◌, ◌≤◌, Some, None, List, [], ◌∷◌, length}
 use Rattle.view_file.specs.Named.{view_named}
 use Rattle.run_evidence.specs.Config.{Config, IsConfig, full, groups_in}
 use Rattle.run_evidence.specs.Evidence.{log_in}
@@ -19,12 +19,24 @@ use Rattle.vcpu_crew.specs.declared.rig.Rig.{Rig}
 abbrev pub config_of_shared : Shared → Config
 config_of_shared s = config_in s.turns
 
+abbrev pub config_of_rig : Rig → Config
+config_of_rig r = config_of_shared r.shared
+
 -- groups, views file and second-stage tables are those of the run, whose board and views the workers take
 pub record IsEquipped (s : Shared) : Type 0 where
   pub config : IsConfig (config_of_shared s)
   pub groups : s.table ≡ groups_in (config_of_shared s)
   pub views : s.views ≡ (config_of_shared s).views
   pub stages : AreStagesFor (full (config_of_shared s) []).ram (length s.views.apps + 1) s.stages.items
+
+-- the pass has seen and holds nothing, and owns the vCPUs below n and no others, of which none has stepped
+pub record OwnsBelow (c : Config) (n : ℕ) (v : Known) : Type 0 where
+  pub config : config_of v ≡ c
+  pub free : v.holds ≡ None
+  pub unseen : v.seen ≡ []
+  pub unlogged : (k : ℕ) → log_in v.logs k ≡ []
+  pub below : (i : ℕ) → i < n → at v.counts i ≡ Some 0
+  pub above : (i : ℕ) → n ≤ i → at v.counts i ≡ None
 
 -- before the first round of vCPU i: the pass owns it alone, and has seen and holds nothing; the lane is the vCPU's, of the
 -- view of the first name, runs, and has no windows and no cleared range
