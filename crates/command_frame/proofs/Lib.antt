@@ -2,3 +2,4 @@ pub mod Written
 pub mod Answered
 pub mod Sure
 pub mod Exact
+pub mod Decimals

@@ -1,4 +1,5 @@
 pub mod Lines
+pub mod Numbers
 pub mod Faults
 pub mod Answers
 pub mod Files

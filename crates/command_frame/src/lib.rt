@@ -7,6 +7,7 @@
 //! - [`answer`]: what a command comes to.
 //! - [`status`]: how the program ends.
 //! - [`line`]: the line on standard error.
+//! - [`number`]: the numbers among the words.
 //! - [`laws`]: that files decide what they give.
 //!
 //! A command is an ordinary function from words and a store to a product or a refusal: it takes its input files with the
@@ -24,6 +25,7 @@ pub mod finish;
 pub mod inputs;
 pub mod laws;
 pub mod line;
+pub mod number;
 pub mod product;
 pub mod products;
 pub mod status;
