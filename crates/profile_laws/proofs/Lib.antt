@@ -1,0 +1,4 @@
+pub mod Alone
+pub mod Covered
+pub mod Groups
+pub mod Robin
