@@ -2,7 +2,8 @@
 #![tactic(auto)]
 
 use command_frame::line::no_words;
-use facechange_cli::command::face_change_still;
+use facechange_cli::threaded::face_change;
+use fc_outside::gate::OpenGate;
 use fc_outside::host::{HostSink, HostStore};
 use std::env::Env;
 use std::process::ExitCode;
@@ -23,5 +24,14 @@ fn main(rt: HostRuntime) -> ExitCode {
     };
     let mut store = HostStore::new(&rt);
     let mut out = HostSink::new(rt.stdout());
-    ExitCode::from(face_change_still(rt.alloc(), &words, &mut store, &mut out, &mut err))
+    let gate = OpenGate;
+    ExitCode::from(face_change(
+        &rt,
+        rt.alloc(),
+        &words,
+        &mut store,
+        &mut out,
+        &mut err,
+        &gate,
+    ))
 }

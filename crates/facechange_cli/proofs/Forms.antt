@@ -4,21 +4,24 @@ use Rattle.std.specs.Prelude.{get_or}
 use Rattle.guest_input.specs.declared.setup.Setup.{Setup}
 use Rattle.guest_input.specs.declared.limits.TheConstants.{STEPS_MOST}
 use Rattle.facechange_cli.specs.Words.{IsTry, IsDriveForm, IsNoForm}
+use Rattle.bench_command.specs.Bench.{IsBenchForm}
 use Rattle.listing_commands.specs.Words.{IsListForm, IsSurfaceForm}
 use Rattle.replay_command.specs.Replay.{IsReplayForm}
 use Rattle.view_commands.specs.Words.{IsProfileForm, IsMergeForm, IsShowForm}
-use Rattle.facechange_cli.specs.declared.words.Command.TheVariants.{Try, Drive, Profile, Merge, Show, Replay, List as Listing, Surface}
+use Rattle.facechange_cli.specs.declared.words.Command.TheVariants.{Try, Drive, Profile, Merge, Show, Replay, List as Listing, Surface, Bench}
 
 pub no_form : (words : List (List ℕ)) → ((setup : Setup) → IsTry words setup → ⊥) → (IsDriveForm words → ⊥) → (IsProfileForm words → ⊥) → (IsMergeForm words → ⊥)
-    → (IsShowForm words → ⊥) → (IsReplayForm words → ⊥) → (IsSurfaceForm words → ⊥) → ((app : List ℕ) → IsListForm words app → ⊥) → IsNoForm words
-no_form words try drive profile merge show replay surface list (Try setup) form = try setup form
-no_form words try drive profile merge show replay surface list Drive form = drive form
-no_form words try drive profile merge show replay surface list Profile form = profile form
-no_form words try drive profile merge show replay surface list Merge form = merge form
-no_form words try drive profile merge show replay surface list Show form = show form
-no_form words try drive profile merge show replay surface list Replay form = replay form
-no_form words try drive profile merge show replay surface list (Listing app) form = list app form
-no_form words try drive profile merge show replay surface list Surface form = surface form
+    → (IsShowForm words → ⊥) → (IsReplayForm words → ⊥) → (IsSurfaceForm words → ⊥) → ((app : List ℕ) → IsListForm words app → ⊥)
+    → ((seed : ℕ) → IsBenchForm words seed → ⊥) → IsNoForm words
+no_form words try drive profile merge show replay surface list bench (Try setup) form = try setup form
+no_form words try drive profile merge show replay surface list bench Drive form = drive form
+no_form words try drive profile merge show replay surface list bench Profile form = profile form
+no_form words try drive profile merge show replay surface list bench Merge form = merge form
+no_form words try drive profile merge show replay surface list bench Show form = show form
+no_form words try drive profile merge show replay surface list bench Replay form = replay form
+no_form words try drive profile merge show replay surface list bench (Listing app) form = list app form
+no_form words try drive profile merge show replay surface list bench Surface form = surface form
+no_form words try drive profile merge show replay surface list bench (Bench seed) form = bench seed form
 
 pub bad-steps : (words : List (List ℕ)) (word : List ℕ) → get_or words 4 [] ≡ word
     → ((steps : ℕ) → word ≡ decimal steps → 1 ≤ steps → steps ≤ STEPS_MOST → ⊥) → (setup : Setup) → IsTry words setup → ⊥

@@ -8,10 +8,11 @@ use Rattle.command_frame.specs.Promise.{Promise, Request, takes_image, takes_set
 use Rattle.command_frame.specs.Products.{ended_of, file_of}
 use Rattle.command_frame.specs.declared.product.Product.{Product}
 use Rattle.facechange_cli.specs.declared.words.Command.{Command}
+use Rattle.bench_command.specs.Bench.{bench_inputs, bench_outputs, bench_promise}
 use Rattle.listing_commands.specs.Requests.{list_inputs, list_outputs, list_promise, surface_inputs, surface_outputs, surface_promise}
 use Rattle.replay_command.specs.Replay.{replay_inputs, replay_outputs, replay_promise}
 use Rattle.view_commands.specs.Requests.{profile_inputs, profile_outputs, profile_promise, merge_inputs, merge_outputs, merge_promise, show_inputs, show_outputs, show_promise}
-use Rattle.facechange_cli.specs.declared.words.Command.TheVariants.{Try, Drive, Profile, Merge, Show, Replay, List as Listing, Surface}
+use Rattle.facechange_cli.specs.declared.words.Command.TheVariants.{Try, Drive, Profile, Merge, Show, Replay, List as Listing, Surface, Bench}
 use Rattle.trace_file.specs.Trace.{Told, text_of}
 use Rattle.guest_runs.specs.Alone.{IsRunOf}
 use Rattle.guest_runs.specs.Driven.{IsDriven}
@@ -46,6 +47,7 @@ inputs_of Show = show_inputs
 inputs_of Replay = replay_inputs
 inputs_of (Listing app) = list_inputs
 inputs_of Surface = surface_inputs
+inputs_of (Bench seed) = bench_inputs
 
 abbrev pub outputs_of : Command → List ℕ
 outputs_of (Try setup) = 5 ∷ []
@@ -56,6 +58,7 @@ outputs_of Show = show_outputs
 outputs_of Replay = replay_outputs
 outputs_of (Listing app) = list_outputs
 outputs_of Surface = surface_outputs
+outputs_of (Bench seed) = bench_outputs
 
 -- what each command promises of its files
 abbrev pub promise_of : Command → Promise
@@ -68,6 +71,7 @@ promise_of Show = show_promise
 promise_of Replay = replay_promise
 promise_of (Listing app) = list_promise app
 promise_of Surface = surface_promise
+promise_of (Bench seed) = bench_promise seed
 
 -- what a command promises
 abbrev pub request_of : List (List ℕ) → Command → Request

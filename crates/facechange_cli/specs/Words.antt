@@ -1,20 +1,16 @@
 -- What the words of a command ask for: `try IMAGE VIEWS APP STEPS LOG`, `drive IMAGE SETUP VIEWS SCRIPT TRACE LOG`.
 -- The forms are this project's own: APP is a name of an app, STEPS a decimal number of 1 to 16,777,216.
-use Rattle.std.specs.Prelude.{◌≡◌, ℕ, ◌≤◌, ◌&&◌, nat_le, Bool, true, false, List, [], ◌∷◌, codes, decimal}
+use Rattle.std.specs.Prelude.{◌≡◌, ℕ, ◌≤◌, true, List, [], ◌∷◌, codes, decimal}
 use Rattle.fc_numbers.specs.Names.{is_app_name}
 use Rattle.guest_input.specs.declared.limits.TheConstants.{STEPS_MOST}
 use Rattle.guest_input.specs.declared.setup.Setup.{Setup}
 use Rattle.facechange_cli.specs.Setups.{setup_for}
 use Rattle.facechange_cli.specs.declared.words.Command.{Command}
 use Rattle.listing_commands.specs.Words.{IsListForm, IsSurfaceForm}
+use Rattle.bench_command.specs.Bench.{IsBenchForm}
 use Rattle.replay_command.specs.Replay.{IsReplayForm}
 use Rattle.view_commands.specs.Words.{IsProfileForm, IsMergeForm, IsShowForm}
-use Rattle.facechange_cli.specs.declared.words.Command.TheVariants.{Try, Drive, Profile, Merge, Show, Replay, List as Listing, Surface}
-
--- the word begins with a digit that is not 0
-abbrev pub is_plain : List ℕ → Bool
-is_plain [] = false
-is_plain (c ∷ cs) = nat_le 49 c && nat_le c 57
+use Rattle.facechange_cli.specs.declared.words.Command.TheVariants.{Try, Drive, Profile, Merge, Show, Replay, List as Listing, Surface, Bench}
 
 -- the words ask for a run by this setup
 pub record IsTry (words : List (List ℕ)) (asked : Setup) : Type 0 where
@@ -49,6 +45,7 @@ IsForm words Show = IsShowForm words
 IsForm words Replay = IsReplayForm words
 IsForm words (Listing app) = IsListForm words app
 IsForm words Surface = IsSurfaceForm words
+IsForm words (Bench seed) = IsBenchForm words seed
 
 -- the words are no listed form
 abbrev pub IsNoForm : List (List ℕ) → Type 0

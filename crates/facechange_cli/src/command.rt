@@ -12,6 +12,7 @@ ghost use Rattle.facechange_cli.specs.Top.{Answers};
 use crate::drive::make_drive;
 use crate::trial::make_trial;
 use crate::words::{Command, command_of};
+use bench_command::bench::make_bench;
 use command_frame::finish::finish;
 use command_frame::line::{tell, turn_away};
 use command_frame::product::{Product, Refusal};
@@ -47,6 +48,7 @@ fn make<S: Store>(
         Command::Replay => make_replay(alloc, words, store),
         Command::List(app) => make_list(alloc, words, app, store),
         Command::Surface => make_surface(alloc, words, store),
+        Command::Bench(seed) => make_bench(alloc, *seed),
     }
 }
 
@@ -60,7 +62,8 @@ fn make<S: Store>(
 /// `replay IMAGE SETUP TRACE` runs the full kernel in the order of a trace, and compares: what the guest wrote goes to
 /// `out` where all is as the trace tells, and else the first difference is on the line.
 /// `list IMAGE VIEWS APP` writes the code that an app's view holds to `out`, instruction by instruction, and `surface IMAGE
-/// VIEWS` how much of the text each app's view holds.
+/// VIEWS` how much of the text each app's view holds. `bench N` makes the guest of a number, profiles it, drives it under the
+/// views of its profile, and writes five lines on that run to `out`.
 pub fn face_change_still<S: Store, K: Sink, E: Sink>(
     alloc: Global,
     words: &[String],

@@ -3,10 +3,11 @@
 //! - [`words`]: what the words of a command ask for.
 //! - [`setup`]: the setup of `try`; [`trial`]: what `try` makes.
 //! - [`drive`]: what `drive` makes.
-//! - [`command`]: the top call.
+//! - [`command`]: the top call without threads; [`threaded`]: the top call, which serves `run` too.
 //! - [`laws`]: that each cause has its answer.
 //!
-//! [`command::face_change_still`] is the program: over any store and any streams it answers what `specs/Top.antt` says.
+//! [`threaded::face_change`] is the program: over any store and any streams it answers what `specs/Top.antt` says. All but
+//! `run` is done by [`command::face_change_still`], which always returns.
 //! What each command promises stands in `specs/Requests.antt`, and what an answer to it means in command_frame. Where
 //! the answer to `try` is 0 or 9 the guest's console is that of the full kernel, run by the words' setup, and the log
 //! has a line for each piece of missing code that the run reached, in order, and no other. Each refusal has its cause.
@@ -22,5 +23,6 @@ pub mod command;
 pub mod drive;
 pub mod laws;
 pub mod setup;
+pub mod threaded;
 pub mod trial;
 pub mod words;

@@ -5,9 +5,11 @@ ghost use Rattle.fc_numbers.specs.Names.{is_app_name};
 ghost use Rattle.guest_input.specs.declared.setup.Setup.{Setup};
 ghost use Rattle.guest_input.specs.declared.limits.TheConstants.{STEPS_MOST};
 ghost use Rattle.facechange_cli.specs.Setups.{setup_for};
-ghost use Rattle.facechange_cli.specs.Words.{IsTry, IsDriveForm, IsForm, IsNoForm, is_plain};
+ghost use Rattle.facechange_cli.specs.Words.{IsTry, IsDriveForm, IsForm, IsNoForm};
 
 use crate::setup::setup_for;
+use bench_command::bench::bench_of;
+use command_frame::number::number_of;
 use fc_numbers::name::Name;
 use guest_input::limits::STEPS_MOST;
 use guest_input::setup::Setup;
@@ -38,16 +40,8 @@ pub enum Command {
     List(Name),
     /// `surface IMAGE VIEWS`: to print how much of the text each app's view holds.
     Surface,
-}
-
-/// Whether the word begins with a digit that is not 0.
-fn is_plain(word: &str) -> bool
-    ensures { result ≡ is_plain word.now }
-{
-    match word.as_bytes() {
-        [first, ..] => b'1' <= *first && *first <= b'9',
-        [] => false,
-    }
+    /// `bench N`: to profile the guest of this number, to drive it, and to tell what came of it.
+    Bench(u64),
 }
 
 /// The number of steps that a word writes: 1 to 16,777,216 in decimal, without leading zeros.
@@ -55,13 +49,11 @@ fn steps_of(word: &str) -> Option<u32>
     ensures some { IfSome result (λ steps. (word.now ≡ decimal steps) × (1 ≤ steps) × (steps ≤ STEPS_MOST)) }
     ensures none { IfNone result ((steps : ℕ) → word.now ≡ decimal steps → 1 ≤ steps → steps ≤ STEPS_MOST → ⊥) }
 {
-    if !is_plain(word) {
+    let steps = number_of(word)?;
+    if steps < 1 || STEPS_MOST < steps {
         return None;
     }
-    match word.parse::<u32>() {
-        Ok(steps) if steps as u64 <= STEPS_MOST => Some(steps),
-        _ => None,
-    }
+    Some(steps as u32)
 }
 
 /// The setup that `try` asks for; None exactly where the words are not of its form.
@@ -117,6 +109,9 @@ pub fn command_of(alloc: Global, words: &[String]) -> Option<Command>
     }
     if let Some(app) = list_of(words) {
         return Some(Command::List(app));
+    }
+    if let Some(seed) = bench_of(words) {
+        return Some(Command::Bench(seed));
     }
     let setup = try_of(alloc, words)?;
     Some(Command::Try(setup))
