@@ -4,8 +4,8 @@ use crate::drive_tables::{
     STALE_LOG, STALE_SCRIPT, TWENTY, TWENTY_BY_FOUR, adding_scripts, failing_runs, refused_runs,
     runs,
 };
-use crate::fixtures::{Came, Fails, NONE_FAILS, Wanted, call, image_of, views_of, words_of};
-use crate::kernels::{ADDS, Kernel, UNMAPPED, WIDE};
+use crate::fixtures::{DRIVE, Guest, NONE_FAILS, Wanted, trace_of, words_of};
+use crate::kernels::{ADDS, UNMAPPED, WIDE};
 use crate::try_tables::FIRST;
 use facechange_cli::command::face_change_still;
 use fc_numbers::machine::End;
@@ -18,53 +18,8 @@ use trace_file::fault::TraceFault;
 use trace_file::reading::read_trace;
 use trace_file::trace::Trace;
 
-const DRIVE: [&str; 7] = ["drive", "image", "setup", "views", "script", "trace", "log"];
-
 /// The digest of 64 KiB of memory with the text of the kernel that adds and, at 0x80002000, the number 18.
 const EIGHTEEN: &str = "1b23c6ba486e75fb4c59ec7479f3df1987b40e7377b880f148bacc6759787547";
-
-/// A kernel and its views.
-#[derive(Drop)]
-struct Guest {
-    image: String,
-    views: String,
-}
-
-impl Guest {
-    fn new(alloc: Global, kernel: &Kernel, shared: &str, apps: &str) -> Result<Guest, Fail> {
-        let image = image_of(alloc, kernel)?;
-        let views = views_of(alloc, image.as_bytes(), shared, apps)?;
-        Ok(Guest { image, views })
-    }
-
-    /// The call with these words over a store with these files.
-    fn call(
-        &self,
-        alloc: Global,
-        words: &[&str],
-        setup: &str,
-        script: &str,
-        fails: Fails,
-    ) -> Result<Came, Fail> {
-        let files = [
-            ("image", self.image.as_bytes()),
-            ("setup", setup.as_bytes()),
-            ("views", self.views.as_bytes()),
-            ("script", script.as_bytes()),
-        ];
-        call(alloc, words, &files, fails)
-    }
-
-    /// The call of `drive` by a setup and a script, while nothing fails.
-    fn drive(&self, alloc: Global, setup: &str, script: &str) -> Result<Came, Fail> {
-        self.call(alloc, &DRIVE, setup, script, NONE_FAILS)
-    }
-}
-
-/// The trace that a call has written; none: no bytes.
-fn trace_of(came: &Came) -> &[u8] {
-    came.store.bytes("trace").unwrap_or(b"")
-}
 
 /// Compares the runs of a schedule with those that were worked out.
 fn has_runs(rt: &impl Abort, label: &str, trace: &Trace, runs: &[(u8, usize)]) {
@@ -79,6 +34,17 @@ fn has_runs(rt: &impl Abort, label: &str, trace: &Trace, runs: &[(u8, usize)]) {
     assert_eq!(rt; trace.schedule.len(), at, "{label}: steps");
 }
 
+/// What the replay of a run comes to: its console and its status, and no log.
+fn replay_of(run: &Wanted) -> Wanted {
+    Wanted {
+        status: run.status,
+        console: run.console,
+        log: None,
+        line: run.line,
+    }
+}
+
+/// The full kernel, run by the trace, writes the same and ends alike.
 #[test]
 fn scripts_run_as_worked_out(rt: HostRuntime) -> Result<(), Fail> {
     let alloc = rt.alloc();
@@ -89,6 +55,9 @@ fn scripts_run_as_worked_out(rt: HostRuntime) -> Result<(), Fail> {
         let trace = read_trace(alloc, trace_of(&came))?;
         has_runs(&rt, row.label, &trace, row.runs);
         assert!(rt; trace.end == row.end, "{}: end", row.label);
+        let replayed = guest.replay(alloc, row.setup, trace_of(&came))?;
+        let label = format!(in alloc; "{}, replayed", row.label)?;
+        replayed.is(&rt, label.as_str(), &replay_of(&row.wanted));
     }
     Ok(())
 }
@@ -139,6 +108,8 @@ fn every_order_adds_up(rt: HostRuntime) -> Result<(), Fail> {
             log.ends_with(b" sh 0x80000006 loop+0x0 0x80000006 0x80001000\n"),
             "{script}: log"
         );
+        let replayed = guest.replay(alloc, TWENTY, trace_of(&came))?;
+        assert_eq!(rt; replayed.status, 0, "{script}: replay");
     }
     Ok(())
 }

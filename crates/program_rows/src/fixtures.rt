@@ -191,3 +191,67 @@ pub(crate) fn call(
         err,
     })
 }
+
+/// The words of the call of `drive`.
+pub(crate) const DRIVE: [&str; 7] = ["drive", "image", "setup", "views", "script", "trace", "log"];
+
+/// Those of `replay`; the trace has a name of its own.
+const REPLAY: [&str; 4] = ["replay", "image", "setup", "driven"];
+
+/// A kernel and its views.
+#[derive(Drop)]
+pub(crate) struct Guest {
+    image: String,
+    views: String,
+}
+
+impl Guest {
+    pub(crate) fn new(
+        alloc: Global,
+        kernel: &Kernel,
+        shared: &str,
+        apps: &str,
+    ) -> Result<Guest, Fail> {
+        let image = image_of(alloc, kernel)?;
+        let views = views_of(alloc, image.as_bytes(), shared, apps)?;
+        Ok(Guest { image, views })
+    }
+
+    /// The call with these words over a store with these files.
+    pub(crate) fn call(
+        &self,
+        alloc: Global,
+        words: &[&str],
+        setup: &str,
+        script: &str,
+        fails: Fails,
+    ) -> Result<Came, Fail> {
+        let files = [
+            ("image", self.image.as_bytes()),
+            ("setup", setup.as_bytes()),
+            ("views", self.views.as_bytes()),
+            ("script", script.as_bytes()),
+        ];
+        call(alloc, words, &files, fails)
+    }
+
+    /// The call of `drive` by a setup and a script, while nothing fails.
+    pub(crate) fn drive(&self, alloc: Global, setup: &str, script: &str) -> Result<Came, Fail> {
+        self.call(alloc, &DRIVE, setup, script, NONE_FAILS)
+    }
+
+    /// The call of `replay` by a setup and a trace.
+    pub(crate) fn replay(&self, alloc: Global, setup: &str, trace: &[u8]) -> Result<Came, Fail> {
+        let files = [
+            ("image", self.image.as_bytes()),
+            ("setup", setup.as_bytes()),
+            ("driven", trace),
+        ];
+        call(alloc, &REPLAY, &files, NONE_FAILS)
+    }
+}
+
+/// The trace that a call has written; none: no bytes.
+pub(crate) fn trace_of(came: &Came) -> &[u8] {
+    came.store.bytes("trace").unwrap_or(b"")
+}
