@@ -37,4 +37,21 @@ same "$work/log" tasks/expected.log
 "$program" replay tasks/kernel.elf tasks/setup.keys "$work/trace" > "$work/console"
 same "$work/console" tasks/expected.keys.console
 
+# Threads go on in another order each time: console and missing functions are the same, and each trace replays.
+"$program" profile crew/kernel.elf crew/setup "$work/views"
+same "$work/views" crew/views
+for run in 1 2 3 4 5 6 7 8 9 10 11 12 13 14 15 16 17 18 19 20; do
+    "$program" run crew/kernel.elf crew/setup crew/views "$work/trace" "$work/log" > "$work/console"
+    same "$work/console" crew/expected.console
+    same "$work/log" /dev/null
+    "$program" replay crew/kernel.elf crew/setup "$work/trace" > "$work/console"
+    same "$work/console" crew/expected.console
+    "$program" run crew/kernel.elf crew/setup crew/views.few "$work/trace" "$work/log" > "$work/console"
+    same "$work/console" crew/expected.console
+    cut -d ' ' -f 5 "$work/log" | sort > "$work/missing"
+    same "$work/missing" crew/expected.missing
+    "$program" replay crew/kernel.elf crew/setup "$work/trace" > "$work/console"
+    same "$work/console" crew/expected.console
+done
+
 echo "all examples are as expected"
