@@ -1,13 +1,14 @@
-/* A kernel of four vCPUs. The first signals the three others, again and again, and waits until each has answered. */
+/* A kernel of four vCPUs that add to one number and signal one another. The last that is done writes the sum. None waits for another. */
 
-enum { VCPUS = 4, SIGNALS = 5 };
+enum { VCPUS = 4, SIGNALS = 5, ADDITIONS = 10 };
 
 enum { CALL_PUT = 1, CALL_SHUTDOWN = 8, CALL_SIGNAL = 0x735049 };
 
 enum { SOFTWARE_INTERRUPTS = 1 << 1, INTERRUPTS = 1 << 1 };
 
-static unsigned long ready;
-static unsigned long answers;
+static unsigned long sum;
+static unsigned long taken;
+static unsigned long done;
 
 static long firmware(unsigned long call, unsigned long first, unsigned long second)
 {
@@ -37,55 +38,48 @@ static void put_number(unsigned long n)
     put_char("0123456789"[n % 10]);
 }
 
-static void add_one(unsigned long *number)
+static unsigned long add_one(unsigned long *number)
 {
-    __atomic_fetch_add(number, 1, __ATOMIC_SEQ_CST);
+    return __atomic_fetch_add(number, 1, __ATOMIC_SEQ_CST);
 }
 
-static void wait_for(unsigned long *number, unsigned long value)
-{
-    while (__atomic_load_n(number, __ATOMIC_SEQ_CST) != value)
-        ;
-}
-
-/* What a signalled vCPU does: takes the signal away, and answers. */
+/* What a signalled vCPU does: takes the signal away, and counts it. */
 void on_signal(void)
 {
     __asm__ volatile("csrc sip, %0" : : "r"((unsigned long)SOFTWARE_INTERRUPTS));
-    add_one(&answers);
+    add_one(&taken);
 }
 
-static void signal_others(void)
+/* Itself too, so that each vCPU takes a signal at once. */
+static void signal_all(void)
 {
-    firmware(CALL_SIGNAL, (1 << VCPUS) - 2, 0);
+    firmware(CALL_SIGNAL, (1 << VCPUS) - 1, 0);
 }
 
-static void lead(void)
+static void work(void)
 {
-    wait_for(&ready, VCPUS - 1);
-    for (unsigned long round = 1; round <= SIGNALS; round++) {
-        signal_others();
-        wait_for(&answers, round * (VCPUS - 1));
-    }
-    put_text("answers: ");
-    put_number(answers);
+    for (int n = 0; n < ADDITIONS; n++)
+        add_one(&sum);
+}
+
+static void finish(void)
+{
+    put_text("sum: ");
+    put_number(sum);
     put_char('\n');
     firmware(CALL_SHUTDOWN, 0, 0);
 }
 
-static void follow(void)
+void kernel_main(void)
 {
     __asm__ volatile("csrw sie, %0" : : "r"((unsigned long)SOFTWARE_INTERRUPTS));
     __asm__ volatile("csrs sstatus, %0" : : "r"((unsigned long)INTERRUPTS));
-    add_one(&ready);
+    for (int round = 0; round < SIGNALS; round++) {
+        work();
+        signal_all();
+    }
+    if (add_one(&done) == VCPUS - 1)
+        finish();
     for (;;)
         ;
-}
-
-void kernel_main(unsigned long number)
-{
-    if (number == 0)
-        lead();
-    else
-        follow();
 }
