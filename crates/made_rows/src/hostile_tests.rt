@@ -1,7 +1,10 @@
 //! Hostile guests, driven under a view of one function, and replayed.
 
-use crate::fixtures::{bytes_of, call, digest_of, image_text, lines_of, setup_text, store_of};
+use crate::fixtures::{
+    Came, bytes_of, call, digest_of, image_text, lines_of, setup_text, store_of,
+};
 use crate::hostile_tables::{digests, stopped};
+use fc_outside::memory::MemStore;
 use guest_maker::make_hostile;
 use std::alloc::Global;
 use std::process::Abort;
@@ -63,14 +66,8 @@ fn line_of(number: usize) -> &'static [u8] {
     b""
 }
 
-/// Drives the hostile guest of a number, compares trace and log with this digest, and replays the trace.
-fn runs_and_is_replayed(
-    rt: &impl Abort,
-    alloc: Global,
-    number: usize,
-    digest: &str,
-) -> Result<(), Fail> {
-    let seed = number as u64;
+/// A store with the files of the hostile guest of a number.
+fn store(alloc: Global, seed: u64) -> Result<MemStore, Fail> {
     let (image, setup) = make_hostile(alloc, seed)?;
     let file = image_text(alloc, &image)?;
     let given = setup_text(alloc, &image, &setup, setup.steps)?;
@@ -82,7 +79,31 @@ fn runs_and_is_replayed(
         ("views", views.as_bytes()),
         ("script", script.as_bytes()),
     ];
-    let mut store = store_of(alloc, &files)?;
+    store_of(alloc, &files)
+}
+
+/// That the replay of the trace in a store ends as the run that wrote it.
+fn is_replayed(
+    rt: &impl Abort,
+    alloc: Global,
+    label: &str,
+    store: &mut MemStore,
+    driven: &Came,
+) -> Result<(), Fail> {
+    let words = ["replay", "image", "setup", "trace"];
+    let replayed = call(alloc, &words, store)?;
+    replayed.is(rt, label, driven);
+    Ok(())
+}
+
+/// Drives the hostile guest of a number, compares trace and log with this digest, and replays the trace.
+fn runs_and_is_replayed(
+    rt: &impl Abort,
+    alloc: Global,
+    number: usize,
+    digest: &str,
+) -> Result<(), Fail> {
+    let mut store = store(alloc, number as u64)?;
     let words = ["drive", "image", "setup", "views", "script", "trace", "log"];
     let driven = call(alloc, &words, &mut store)?;
     let line = line_of(number);
@@ -93,11 +114,7 @@ fn runs_and_is_replayed(
     let made = digest_of(alloc, &[bytes_of(&store, "trace"), bytes_of(&store, "log")])?;
     assert_eq!(rt; made.as_str(), digest, "{number}: trace and log");
     has_no_group_twice(rt, alloc, bytes_of(&store, "log"))?;
-    let words = ["replay", "image", "setup", "trace"];
-    let replayed = call(alloc, &words, &mut store)?;
-    let label = format!(in alloc; "{number}, replayed")?;
-    replayed.is(rt, label.as_str(), &driven);
-    Ok(())
+    is_replayed(rt, alloc, "replay", &mut store, &driven)
 }
 
 /// Whatever a guest does, its run ends or is stopped by name, and the full kernel does the same. The guests are run in four
