@@ -13,7 +13,7 @@ use fc_outside::gate::Gate;
 use function_table::table::Table;
 use guest_board::board::Board;
 use std::sync::Wait;
-use std::thread::{Threads, for_each_mut};
+use std::thread::{Threads, for_each_mut, yield_now};
 use turn_table::pass::{Pass, Turns};
 use vcpu_core::lane::Lane;
 use view_file::views::Views;
@@ -48,6 +48,8 @@ fn make_rounds<W: Wait, G: Gate>(rt: &W, rig: &Shared, pass: &mut Pass, lane: &m
             Rounded::Over => return,
             Rounded::Went => n = n.saturating_add(1),
         }
+        // Else the worker that gave the board last takes it again before another can.
+        yield_now();
     }
     unreachable!()
 }
