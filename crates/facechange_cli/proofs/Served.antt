@@ -1,28 +1,15 @@
 -- The frame's laws, at every command.
 use Rattle.std.proofs.Common.{◌≡◌, ℕ, Some, List, ◌⊎◌, inl, inr, refl, false}
-use Rattle.guest_input.specs.declared.image.Image.{Image}
-use Rattle.guest_input.specs.declared.setup.Setup.{Setup}
-use Rattle.view_file.specs.declared.views.Views.{Views}
-use Rattle.trace_file.specs.Trace.{Told as TraceTold}
-use Rattle.command_frame.specs.Files.{GivesImage, RefusesImage, GivesSetup, RefusesSetup, GivesViews, RefusesViews, GivesScript, RefusesScript, GivesTrace, RefusesTrace, GivesFreeViews, RefusesFreeViews}
 use Rattle.command_frame.specs.Promise.{Told, MakesNot}
 use Rattle.command_frame.specs.declared.fault.Fault.{Fault}
-use Rattle.command_frame.specs.Exact.{AreSure, IsSure}
+use Rattle.command_frame.specs.Exact.{AreSure}
 use Rattle.command_frame.proofs.Exact.{accepted-files, refused-files}
 use Rattle.facechange_cli.specs.Requests.{promise_of, request_of}
+use Rattle.facechange_cli.specs.Sure.{AllSure}
 use Rattle.facechange_cli.specs.Served.{AcceptedFilesAreRun, AcceptedFilesAreServed, RefusedFilesAreAnswered, RefusedFilesAreNotRun, makes_always}
 use Rattle.run_command.specs.Run.{run_promise, run_request}
 use Rattle.facechange_cli.specs.declared.words.Command.{Command}
 use Rattle.facechange_cli.specs.declared.words.Command.TheVariants.{Try, Drive, Profile, Merge, Show, Replay, List as Listing, Surface, Bench}
-
--- each kind of file gives one thing or is refused for one reason
-pub record AllSure : Type 0 where
-  pub image : IsSure Image GivesImage RefusesImage
-  pub setup : (i : Image) → IsSure Setup (λ held. GivesSetup held i) (λ held. RefusesSetup held i)
-  pub views : (i : Image) → IsSure Views (λ held. GivesViews held i) (λ held. RefusesViews held i)
-  pub script : (vcpus : ℕ) → IsSure (List ℕ) (λ held. GivesScript held vcpus) (λ held. RefusesScript held vcpus)
-  pub trace : IsSure TraceTold GivesTrace RefusesTrace
-  pub free : IsSure Views GivesFreeViews RefusesFreeViews
 
 -- only a command that may have no product fails with its files accepted
 fails-where : (words : List (List ℕ)) (at : Told) (why : Fault) (command : Command) → MakesNot words at why (request_of words command).promise → makes_always command ≡ false

@@ -3,3 +3,4 @@ pub mod Words
 pub mod Requests
 pub mod Top
 pub mod Served
+pub mod Sure

@@ -2,11 +2,4 @@ use Rattle.facechange_cli.proofs.Served.{accepted}
 use Rattle.facechange_cli.proofs.laws.accepted_files_are_served.Goals as goal
 
 pub returns : goal.returns
-returns c = accepted (record {
-  image = c.image_files_are_sure.ensures;
-  setup = c.setup_files_are_sure.ensures;
-  views = c.views_files_are_sure.ensures;
-  script = c.script_files_are_sure.ensures;
-  trace = c.trace_files_are_sure.ensures;
-  free = c.free_views_files_are_sure.ensures;
-})
+returns c = accepted c.files_are_sure.ensures
