@@ -13,6 +13,7 @@
 mod form;
 mod halves;
 mod items;
+pub mod laws;
 mod lines;
 pub mod listing;
 pub mod surface;
