@@ -8,6 +8,7 @@
 //! program, which tells the words of all commands apart, stands above.
 #![tactic(auto)]
 
+pub mod laws;
 pub mod list;
 mod printed;
 pub mod surface;
