@@ -54,4 +54,9 @@ for run in 1 2 3 4 5 6 7 8 9 10 11 12 13 14 15 16 17 18 19 20; do
     same "$work/console" crew/expected.console
 done
 
+# What the listings say is what another disassembler says, where there is one.
+for listed in "c/kernel.elf c/kernel.views sort" "tasks/kernel.elf tasks/views shell" "crew/kernel.elf crew/views none"; do
+    tools/listing_against_objdump.py "$program" $listed || { echo "differs: $listed"; exit 1; }
+done
+
 echo "all examples are as expected"

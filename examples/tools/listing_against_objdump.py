@@ -30,6 +30,8 @@ SHORT_NAMES = {
     "c.swsp": "sw",
     "c.sdsp": "sd",
 }
+# The ordering bits of an atomic instruction, which a listing shows by its star alone.
+ORDERING = re.compile(r"\.(aq|rl|aqrl)$")
 BRANCHES = {"beq", "bne", "blt", "bge", "bltu", "bgeu", "jal"}
 UPPER = {"lui", "auipc"}
 NO_IMMEDIATE = {"fence"}
@@ -85,7 +87,7 @@ def difference(place, item, row):
     """What differs between an item and a row of the disassembly, or None."""
     digits, name, fields = item
     other_digits, other_name, operands = row
-    plain = SHORT_NAMES.get(other_name, other_name.removeprefix("c."))
+    plain = SHORT_NAMES.get(other_name, ORDERING.sub("", other_name.removeprefix("c.")))
     numbers = sorted(fields[key] for key in ("rd", "rs1", "rs2") if key in fields)
     if digits != other_digits:
         return f"digits {digits} and {other_digits}"
