@@ -1,4 +1,5 @@
 pub mod Halves
+pub mod Beside
 pub mod Places
 pub mod Slots
 pub mod LeftOver

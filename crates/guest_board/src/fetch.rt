@@ -1,20 +1,22 @@
 //! Where an instruction is fetched from, by the original memory.
 
-ghost use Rattle.std.specs.Prelude.{◌≡◌, ◌+◌, ◌-◌, ◌%◌, ◌^◌, ◌<◌, true, false};
+ghost use Rattle.std.specs.Prelude.{◌≡◌, ◌+◌, ◌-◌, ◌%◌, ◌^◌, ◌<◌, IfSome, true, false};
 ghost use Rattle.gstage.specs.Stage.{IsFor};
 ghost use Rattle.guest_ram.specs.Ram.{Ram, is_inside, IsLaid};
 ghost use Rattle.sv39_walk.specs.Cache.{Fits};
 ghost use Rattle.guest_board.specs.Fetch.{half_place, half_by, half_at, is_split, with_first, with_second, fetched, second_place, text_place, outside_text, with_halves};
 ghost use Rattle.guest_board.specs.FetchFacts.{HalfInside};
+ghost use Rattle.guest_board.specs.declared.fetch.HalfPlace.TheVariants.{In as FoundIn};
 
 use fc_numbers::machine::{Access, Mode, Stop};
-use fc_numbers::places::{Gpa, Va};
+use fc_numbers::places::{Gpa, PAGE, Va};
 use gstage::stage::SecondStage;
 use guest_ram::GuestRam;
 use rv_step::causes::{FETCH_ACCESS_FAULT, FETCH_PAGE_FAULT};
 use rv_step::resolve::{Resolved, resolve};
 use rv_step::vcpu::Vcpu;
 use sv39_walk::cache::WalkCache;
+use sv39_walk::laws::{translations_go_by_page, translations_keep_low_bits};
 
 /// Where a halfword is fetched from: whether in text, and its place; or why it is not.
 #[derive(Debug, Clone, Copy)]
@@ -77,6 +79,49 @@ fn find<S: SecondStage>(
     }
 }
 
+/// Where the second halfword is fetched from, if it is on the page of the first, which is found at this place: beside it.
+fn beside(v: &Vcpu, ram: &GuestRam, text: bool, place: Gpa) -> Option<HalfPlace>
+    requires first { half_place v.now ram.now v.now.pc ≡ FoundIn text place }
+    requires inside { HalfInside ram.now (FoundIn text place) }
+    ensures value { IfSome result (λ found. found ≡ second_place v.now ram.now) }
+    ensures inside { IfSome result (HalfInside ram.now) }
+{
+    if v.pc.0 % PAGE >= PAGE - 2 {
+        return None;
+    }
+    // The calls say how memory is laid out, and how the addresses of a page are translated.
+    let _laid = ram.text();
+    translations_go_by_page();
+    translations_keep_low_bits();
+    Some(HalfPlace::In {
+        text,
+        place: Gpa(place.0 + 2),
+    })
+}
+
+/// Where the second halfword is fetched from, where the first is found at this place.
+fn find_second<S: SecondStage>(
+    v: &Vcpu,
+    ram: &GuestRam,
+    cache: &mut WalkCache,
+    stage: &S,
+    text: bool,
+    place: Gpa,
+) -> HalfPlace
+    requires stage { IsFor (S.text stage.now) (S.ram stage.now) ram.now }
+    requires fits { Fits ram.now cache.old }
+    requires first { half_place v.now ram.now v.now.pc ≡ FoundIn text place }
+    requires inside { HalfInside ram.now (FoundIn text place) }
+    ensures fits { Fits ram.now cache.new }
+    ensures value { result ≡ second_place v.now ram.now }
+    ensures inside { HalfInside ram.now result }
+{
+    if let Some(found) = beside(v, ram, text, place) {
+        return found;
+    }
+    find(v, ram, cache, stage, Va(v.pc.0.wrapping_add(2)))
+}
+
 #[tactic(auto, using(crate::proofs::Halves::even_inside, crate::proofs::Halves::half_small))]
 fn read(ram: &GuestRam, place: Gpa) -> u16
     requires { is_inside ram.now place ≡ true }
@@ -120,7 +165,7 @@ pub(crate) fn fetch<S: SecondStage>(
                     half: first,
                 };
             }
-            match find(v, ram, cache, stage, Va(v.pc.0.wrapping_add(2))) {
+            match find_second(v, ram, cache, stage, text, place) {
                 HalfPlace::Faults { cause, tval } => Fetched::Faults { cause, tval },
                 HalfPlace::Stops(stop) => Fetched::Stops(stop),
                 HalfPlace::In {

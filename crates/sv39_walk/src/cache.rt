@@ -37,8 +37,8 @@ pub struct Kept {
 }
 
 /// Answers of walks of one guest memory, kept with the stamps of the frames that they read. In contracts it is the list
-/// of its slots. Each address has one slot, by the number of its page: a later page of the slot takes the place of an
-/// earlier one.
+/// of its slots. Each access to an address has one slot, by the number of the page and by the kind of access: what is
+/// asked later of the slot takes the place of what was asked earlier.
 #[derive(Drop)]
 pub struct WalkCache {
     slots: [Option<Kept>; CACHE_MOST],
@@ -81,11 +81,16 @@ fn is_live(ram: &GuestRam, kept: &Kept) -> bool
         .all(|read| ram.frame_stamp(read.frame) == read.stamp)
 }
 
-/// The slot of an address.
-fn slot_of(va: Va) -> usize
+/// The slot of an access to an address.
+fn slot_of(va: Va, access: Access) -> usize
     ensures { result < CACHE_MOST }
 {
-    ((va.0 / PAGE) % CACHE_MOST as u64) as usize
+    let first = match access {
+        Access::Fetch => 0,
+        Access::Load => CACHE_MOST as u64 / 3,
+        Access::Store => CACHE_MOST as u64 * 2 / 3,
+    };
+    ((va.0 / PAGE + first) % CACHE_MOST as u64) as usize
 }
 
 /// The first frame of memory, which has one at least, and its stamp.
@@ -184,7 +189,7 @@ impl WalkCache {
             access,
             va: start_of(va),
         };
-        let answer = self.answer_in(ram, satp, page, slot_of(va));
+        let answer = self.answer_in(ram, satp, page, slot_of(va, access));
         moved(answer, va)
     }
 

@@ -1,7 +1,7 @@
 //! The computed answer of a translation and the sequence of entries that the manual reads. Nothing here runs: each
 //! function has a law as its contract.
 
-ghost use Rattle.sv39_walk.specs.Laws.{NewCachesFit, OneTranslation, StoresKeepFits, TranslationsKeepLowBits, WalkedIsTranslation};
+ghost use Rattle.sv39_walk.specs.Laws.{NewCachesFit, OneTranslation, StoresKeepFits, TranslationsGoByPage, TranslationsKeepLowBits, WalkedIsTranslation};
 
 /// The computed answer is that of a sequence of entries, each in the table that the one before names.
 #[tactic(auto, using(crate::proofs::Sequence::walked_is_translation))]
@@ -31,4 +31,10 @@ pub fn stores_keep_fits()
 #[tactic(auto, using(crate::proofs::LowBits::low_walked))]
 pub fn translations_keep_low_bits()
     ensures { TranslationsKeepLowBits }
+{}
+
+/// An address is translated as the first address of its page, and then so many bytes further on.
+#[tactic(auto, using(crate::proofs::ByPage::by_page))]
+pub fn translations_go_by_page()
+    ensures { TranslationsGoByPage }
 {}
