@@ -2,8 +2,8 @@
 
 ghost use Rattle.std.specs.Prelude.{◌≡◌, ℕ, List, IfNone, IfOk, IfSome, map, string_bytes};
 ghost use Rattle.fc_outside.specs.Outside.{Faults};
-ghost use Rattle.trace_file.specs.Trace.{told};
-ghost use Rattle.command_frame.specs.Promise.{Told};
+ghost use Rattle.trace_file.specs.Trace.{told_of_trace};
+ghost use Rattle.command_frame.specs.Promise.{FileContents};
 ghost use Rattle.command_frame.specs.Command.{MakeSaid, MakeCounts, HasOutputs};
 ghost use Rattle.bench_command.specs.Bench.{IsBenchForm, bench_lines, bench_request, count_lines, end_lines};
 
@@ -57,7 +57,7 @@ fn count_lines(
 
 /// How a run has ended, and with what in memory.
 fn end_lines(alloc: Global, trace: &Trace) -> Result<String, NoMemory>
-    ensures { IfOk result (λ text. string_bytes text ≡ end_lines (told trace.now)) }
+    ensures { IfOk result (λ text. string_bytes text ≡ end_lines (told_of_trace trace.now)) }
 {
     let end = end_name(Some(trace.end));
     let memory = hex::encode(alloc, trace.memory.as_slice())?;
@@ -66,7 +66,7 @@ fn end_lines(alloc: Global, trace: &Trace) -> Result<String, NoMemory>
 
 /// The five lines on a run.
 fn lines_of(alloc: Global, driven: &Driven) -> Result<String, NoMemory>
-    ensures { IfOk result (λ text. string_bytes text ≡ bench_lines (told driven.now.trace) driven.now.console.items) }
+    ensures { IfOk result (λ text. string_bytes text ≡ bench_lines (told_of_trace driven.now.trace) driven.now.console.items) }
 {
     let steps = driven.trace.schedule.len();
     let recovered = driven.trace.entries.len();
@@ -79,7 +79,7 @@ fn lines_of(alloc: Global, driven: &Driven) -> Result<String, NoMemory>
 /// Makes the guest of the number, profiles it, drives it under the views of the profile, and tells in five lines what came of
 /// it. They go to standard output.
 pub fn make_bench(alloc: Global, seed: u64) -> Result<Product, Refusal>
-    ensures said { (words : List (List ℕ)) (told : Told) → MakeSaid (bench_request words seed) told result }
+    ensures said { (words : List (List ℕ)) (told_of_trace : FileContents) → MakeSaid (bench_request words seed) told_of_trace result }
     ensures counted { (words : List (List ℕ)) (reads : Faults) → MakeCounts (bench_request words seed) reads reads result }
     ensures outputs { (words : List (List ℕ)) → HasOutputs (bench_request words seed) result }
 {

@@ -12,7 +12,7 @@ use Rattle.guest_input.specs.declared.image.Function.{Function}
 use Rattle.guest_input.specs.declared.image.Image.{Image}
 use Rattle.guest_input.specs.Text.{flat_of, spans_of, start_place}
 use Rattle.guest_input.specs.Accepted.{IsImage, offsets_of, starts_of}
-use Rattle.function_table.specs.Groups.{function_at, groups_of, has_start, in_text}
+use Rattle.function_table.specs.Groups.{function_at, groups_of, has_start, in_groups_text}
 use Rattle.function_table.proofs.GroupLemmas.{function-below, function-inside, function-starts, start-below}
 use Rattle.chain_log.specs.Line.{holder_of, no_function}
 
@@ -43,7 +43,7 @@ holder-one i place image =
 pub holder-inside : (i : Image) (place : ℕ) → IsImage i → has_start (spans_of i.ranges) (holder_of i place).at ≡ true
 holder-inside i place image = function-inside (spans_of i.ranges) i.functions (function_at (groups_of i) place) no_function image.inside (holder-one i place image)
 
-pub holder-starts : (i : Image) (place : ℕ) → IsImage i → in_text (groups_of i) place ≡ true → start_place (spans_of i.ranges) (holder_of i place).at ≤ place
+pub holder-starts : (i : Image) (place : ℕ) → IsImage i → in_groups_text (groups_of i) place ≡ true → start_place (spans_of i.ranges) (holder_of i place).at ≤ place
 holder-starts i place image inside =
     let starts : slice_index (groups_of i).functions (function_at (groups_of i) place) ≤ offset_in (spans_of i.ranges) place = function-starts (groups_of i).functions (text_size (spans_of i.ranges)) (offset_in (spans_of i.ranges) place) image.starts in
     let same : slice_index (groups_of i).functions (function_at (groups_of i) place) ≡ flat_of (spans_of i.ranges) (holder_of i place).at = offset-at (spans_of i.ranges) i.functions (function_at (groups_of i) place) (holder-one i place image) in

@@ -19,12 +19,12 @@ unfoldable pub code_at : Ram → Csrs → Mode → ℕ → Option ℕ
 code_at ram csr mode va = option_and_then (λ place. if is_text ram place then Some place else None) (place_for ram csr mode Fetch va)
 
 -- the 8 bytes at an address
-unfoldable pub word_at : Ram → Csrs → Mode → ℕ → Option ℕ
-word_at ram csr mode va = option_and_then (λ place. if is_inside ram place then Some (value ram place Doubleword) else None) (place_for ram csr mode Load va)
+unfoldable pub doubleword_at : Ram → Csrs → Mode → ℕ → Option ℕ
+doubleword_at ram csr mode va = option_and_then (λ place. if is_inside ram place then Some (value ram place Doubleword) else None) (place_for ram csr mode Load va)
 
 -- so many bytes below an address
-abbrev pub below : ℕ → ℕ → ℕ
-below f n = (f + (2 ^ 64 - n)) % 2 ^ 64
+abbrev pub address_below : ℕ → ℕ → ℕ
+address_below f n = (f + (2 ^ 64 - n)) % 2 ^ 64
 
 abbrev pub framed : ℕ → Option ℕ → Option Frame
 framed up (Some place) = Some (record { place = place; up = up })
@@ -38,7 +38,7 @@ by_words ram csr mode None up = None
 
 -- the frame of frame pointer f
 unfoldable pub frame_at : Ram → Csrs → Mode → ℕ → Option Frame
-frame_at ram csr mode f = if f % 8 == 0 then by_words ram csr mode (word_at ram csr mode (below f 8)) (word_at ram csr mode (below f 16)) else None
+frame_at ram csr mode f = if f % 8 == 0 then by_words ram csr mode (doubleword_at ram csr mode (address_below f 8)) (doubleword_at ram csr mode (address_below f 16)) else None
 
 -- the places of these frames: one, and those above it where the next frame pointer is above this one
 abbrev pub places_of : ℕ → (ℕ → List ℕ) → Option Frame → List ℕ
@@ -46,12 +46,12 @@ places_of f rest None = []
 places_of f rest (Some frame) = frame.place ∷ (if nat_lt f frame.up then rest frame.up else [])
 
 -- the places of the frame of f and of those above it, n at most
-unfoldable pub frames_from : Ram → Csrs → Mode → ℕ → ℕ → List ℕ
-frames_from ram csr mode zero f = []
-frames_from ram csr mode (suc n) f = places_of f (frames_from ram csr mode n) (frame_at ram csr mode f)
+unfoldable pub frame_places_from : Ram → Csrs → Mode → ℕ → ℕ → List ℕ
+frame_places_from ram csr mode zero f = []
+frame_places_from ram csr mode (suc n) f = places_of f (frame_places_from ram csr mode n) (frame_at ram csr mode f)
 
 abbrev pub with_frames : Ram → Csrs → Mode → ℕ → List ℕ → List ℕ
-with_frames ram csr mode f first = first ++ frames_from ram csr mode (CHAIN_MOST - length first) f
+with_frames ram csr mode f first = first ++ frame_places_from ram csr mode (CHAIN_MOST - length first) f
 
 -- the chain: the return address where it is code in text, then the frames, CHAIN_MOST places in all at most
 unfoldable pub chain_of : Ram → Csrs → Mode → List ℕ → List ℕ

@@ -2,7 +2,7 @@
 
 ghost use Rattle.std.specs.Prelude.{◌≡◌, ◌≤◌, ◌<◌, ◌+◌, ◌-◌, ◌%◌, ◌^◌, ◌++◌, IfSome, length};
 ghost use Rattle.arrayvec.specs.ArrayVec.{array_vec_len};
-ghost use Rattle.chain_log.specs.Chain.{below, chain_of, code_at, frame_at, frames_from, word_at};
+ghost use Rattle.chain_log.specs.Chain.{address_below, chain_of, code_at, frame_at, frame_places_from, doubleword_at};
 
 use crate::entry::{CHAIN_MOST, Chain};
 use arrayvec::ArrayVec;
@@ -34,10 +34,10 @@ fn code_at(ram: &GuestRam, csr: &CsrFile, mode: Mode, va: Va) -> Option<Gpa>
 }
 
 /// The 8 bytes at an address.
-#[tactic(auto, unfolding(crate::specs::Chain::word_at))]
+#[tactic(auto, unfolding(crate::specs::Chain::doubleword_at))]
 fn word_at(ram: &GuestRam, csr: &CsrFile, mode: Mode, va: Va) -> Option<u64>
     requires { va % 8 ≡ 0 }
-    ensures { result ≡ word_at ram.now csr.now mode va }
+    ensures { result ≡ doubleword_at ram.now csr.now mode va }
 {
     let place = place_for(ram, csr, mode, Access::Load, va)?;
     match ram.load(place, Width::Doubleword) {
@@ -49,7 +49,7 @@ fn word_at(ram: &GuestRam, csr: &CsrFile, mode: Mode, va: Va) -> Option<u64>
 /// So many bytes below an address.
 fn bytes_below(f: u64, n: u64) -> Va
     requires { 0 < n }
-    ensures { result ≡ below f n }
+    ensures { result ≡ address_below f n }
 {
     Va(f.wrapping_sub(n))
 }
@@ -70,7 +70,7 @@ fn frame_at(ram: &GuestRam, csr: &CsrFile, mode: Mode, f: u64) -> Option<Frame>
 
 /// Adds the places of the frame of f and of the frames above it, as far as the chain has room.
 fn add_frames(chain: &mut Chain, ram: &GuestRam, csr: &CsrFile, mode: Mode, mut f: u64)
-    ensures { chain.new.items ≡ chain.old.items ++ frames_from ram.now csr.now mode (CHAIN_MOST - array_vec_len chain.old) f }
+    ensures { chain.new.items ≡ chain.old.items ++ frame_places_from ram.now csr.now mode (CHAIN_MOST - array_vec_len chain.old) f }
 {
     'frames: while chain.len() < CHAIN_MOST {
         match frame_at(ram, csr, mode, f) {

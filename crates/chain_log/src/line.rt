@@ -4,7 +4,7 @@ ghost use Rattle.std.specs.Prelude.{◌≡◌, ◌≤◌, ◌<◌, ◌+◌, ◌-
 ghost use Rattle.std.specs.Fmt.{decimal};
 ghost use Rattle.guest_input.specs.Accepted.{IsImage};
 ghost use Rattle.guest_input.specs.Text.{start_place};
-ghost use Rattle.function_table.specs.Groups.{groups_count, groups_of, has_start, in_text};
+ghost use Rattle.function_table.specs.Groups.{groups_count, groups_of, has_start, in_groups_text};
 ghost use Rattle.chain_log.specs.Line.{chain_texts, hex, holder_of, line_of, place_text, spaced};
 
 use crate::entry::LogEntry;
@@ -54,7 +54,7 @@ fn push_distance(alloc: Global, line: &mut Vec<u8>, n: u64) -> Result<(), NoMemo
 /// The function that holds a place of text.
 fn holder<'a>(image: &'a Image, table: &Table, at: Gpa) -> &'a Function
     requires table { table.now ≡ groups_of image.now }
-    requires text { in_text table.now at ≡ true }
+    requires text { in_groups_text table.now at ≡ true }
     ensures { result.now ≡ holder_of image.now at }
 {
     let Some(n) = table.function_at(at) else {
@@ -85,7 +85,7 @@ fn push_place(
 ) -> Result<(), NoMemory>
     requires image { IsImage image.now }
     requires table { table.now ≡ groups_of image.now }
-    requires text { in_text table.now at ≡ true }
+    requires text { in_groups_text table.now at ≡ true }
     ensures { OnOk result (line.new.items ≡ line.old.items ++ 32 ∷ place_text image.now at) }
 {
     let function = holder(image, table, at);
@@ -104,7 +104,7 @@ fn push_places(
 ) -> Result<(), NoMemory>
     requires image { IsImage image.now }
     requires table { table.now ≡ groups_of image.now }
-    requires text { All (λ place. in_text table.now place ≡ true) places.now }
+    requires text { All (λ place. in_groups_text table.now place ≡ true) places.now }
     ensures { OnOk result (line.new.items ≡ line.old.items ++ spaced (chain_texts image.now places.now)) }
 {
     for place in places {
@@ -125,8 +125,8 @@ pub fn print_entry(
     requires image { IsImage image.now }
     requires table { table.now ≡ groups_of image.now }
     requires group { e.now.group < groups_count table.now }
-    requires pc { in_text table.now e.now.pc ≡ true }
-    requires chain { All (λ place. in_text table.now place ≡ true) e.now.chain.items }
+    requires pc { in_groups_text table.now e.now.pc ≡ true }
+    requires chain { All (λ place. in_groups_text table.now place ≡ true) e.now.chain.items }
     ensures { IfOk result (λ line. line.items ≡ line_of image.now app.now e.now) }
 {
     let range = table.range(e.group);

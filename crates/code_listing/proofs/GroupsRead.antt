@@ -25,7 +25,7 @@ use Rattle.listing_reader.specs.declared.line.Line.TheVariants as line
 use Rattle.listing_reader.specs.declared.line.TheConstants.{HALVES_MOST}
 use Rattle.listing_reader.specs.declared.reading.Held.{Held}
 use Rattle.listing_reader.specs.Lines.{cut_at, is_name}
-use Rattle.listing_reader.specs.Reading.{halves_read, held_from, lines_of, read_from}
+use Rattle.listing_reader.specs.Reading.{halves_read, held_from, lines_of_listing, read_from}
 use Rattle.listing_reader.specs.Written.{IsOneLine}
 use Rattle.code_listing.specs.Items.{items_of}
 use Rattle.code_listing.specs.Lines.{item_lines}
@@ -167,7 +167,7 @@ record GroupRead (t : Groups) (g n before : ℕ) (text : List ℕ) (held : List 
   lines : ℕ
   halves : ℕ
   few : 2 * halves ≤ last_of t g
-  read : read_from n before (lines_of (text ++ more)) ≡ with_held held (read_from lines halves (lines_of more))
+  read : read_from n before (lines_of_listing (text ++ more)) ≡ with_held held (read_from lines halves (lines_of_listing more))
 
 -- a present group
 present-read : (law : LinesRead) (places : PlacesAreInText) (i : Image) (p : PagedView) (g n before : ℕ) (more : List ℕ) → Listed i p → g < groups_count p.groups → 2 * before ≤ first_of p.groups g
@@ -191,9 +191,9 @@ present-read law places i p g n before more is within few =
       halves = before + 0 + length halves;
       few = omega (arith, few, short, fits.rise);
       read =
-          ap (λ xs. read_from n before (lines_of xs)) (append_assoc (head_line i s) (item_lines s.start (items_of halves)) more ∙ head-is i s body)
+          ap (λ xs. read_from n before (lines_of_listing xs)) (append_assoc (head_line i s) (item_lines s.start (items_of halves)) more ∙ head-is i s body)
           ∙ line-read law n before line.Head (head_words i s) body (law.heads s.start s.end (holder_of i s.start).name low end name.0 name.1) none
-          ∙ held-none (read_from (n + 1) (before + 0) (lines_of body))
+          ∙ held-none (read_from (n + 1) (before + 0) (lines_of_listing body))
           ∙ halves-read law (n + 1) (before + 0) s.start halves more (group-small p g is.bytes) room all;
     }
 
@@ -203,12 +203,12 @@ group-read law places i p g n before more is within few =
     let fits = group-fits p.groups g is.groups within in
     elim (is_present p.base p.log g) as (λ t. GroupRead p.groups g n before (if t then group_text i p g else []) (if t then held_from (range_of p.groups g).start (halves_at (mask_of p) p.groups g) else []) more) [
       | true ↦ present-read law places i p g n before more is within few
-      | false ↦ record { lines = n; halves = before; few = omega (arith, few, fits.rise); read = sym (held-none (read_from n before (lines_of more))) }
+      | false ↦ record { lines = n; halves = before; few = omega (arith, few, fits.rise); read = sym (held-none (read_from n before (lines_of_listing more))) }
     ]
 
 -- the groups from one on
 groups-read : (law : LinesRead) (places : PlacesAreInText) (i : Image) (p : PagedView) (k g n before : ℕ) → Listed i p → g + k ≡ groups_count p.groups → 2 * before ≤ edge p.groups g
-    → read_from n before (lines_of (flat_map (text_of_group i p) (range_with_len g k))) ≡ Ok (flat_map (held_of_group p) (range_with_len g k))
+    → read_from n before (lines_of_listing (flat_map (text_of_group i p) (range_with_len g k))) ≡ Ok (flat_map (held_of_group p) (range_with_len g k))
 groups-read law places i p zero g n before is all few = refl
 groups-read law places i p (suc k) g n before is all few =
     let within : g < groups_count p.groups = omega (arith, all) in

@@ -3,7 +3,7 @@ use Rattle.std.proofs.Common.{◌≡◌, ℕ, zero, suc, ◌+◌, ◌*◌, List,
 use Rattle.std.specs.List.{flat_map, range_with_len}
 use Rattle.std.proofs.lemmas.List.Concat.{flat_map-append}
 use Rattle.code_listing.specs.declared.items.Item.{Item}
-use Rattle.code_listing.specs.Items.{items_of, size_of}
+use Rattle.code_listing.specs.Items.{items_of, size_of_item}
 use Rattle.code_listing.specs.Lines.{item_line, item_lines}
 
 -- one more number at the end
@@ -29,12 +29,12 @@ flat-more f n =
     ap (λ xs. flat_map f xs) (range-next n) ∙ flat_map-append f (range_with_len 0 n) (n ∷ []) ∙ ap (λ xs. flat_map f (range_with_len 0 n) ++ xs) (append_nil (f n))
 
 -- the line of one more item
-pub line-more : (place at : ℕ) (halves out more whole : List ℕ) (item : Item) → items_of (drop at halves) ≡ item ∷ items_of (drop (size_of item) (drop at halves))
+pub line-more : (place at : ℕ) (halves out more whole : List ℕ) (item : Item) → items_of (drop at halves) ≡ item ∷ items_of (drop (size_of_item item) (drop at halves))
     → more ≡ out ++ item_line (place + 2 * at) item → out ++ item_lines (place + 2 * at) (items_of (drop at halves)) ≡ whole
-    → more ++ item_lines (place + 2 * (at + size_of item)) (items_of (drop (at + size_of item) halves)) ≡ whole
+    → more ++ item_lines (place + 2 * (at + size_of_item item)) (items_of (drop (at + size_of_item item) halves)) ≡ whole
 line-more place at halves out more whole item first is_more before =
-    let rest : drop (size_of item) (drop at halves) ≡ drop (at + size_of item) halves = drop-drop (size_of item) at halves in
-    let next : place + 2 * (at + size_of item) ≡ place + 2 * at + 2 * size_of item = omega arith in
+    let rest : drop (size_of_item item) (drop at halves) ≡ drop (at + size_of_item item) halves = drop-drop (size_of_item item) at halves in
+    let next : place + 2 * (at + size_of_item item) ≡ place + 2 * at + 2 * size_of_item item = omega arith in
     rw (is_more, next, ← rest)
-    (append_assoc out (item_line (place + 2 * at) item) (item_lines (place + 2 * at + 2 * size_of item) (items_of (drop (size_of item) (drop at halves))))
+    (append_assoc out (item_line (place + 2 * at) item) (item_lines (place + 2 * at + 2 * size_of_item item) (items_of (drop (size_of_item item) (drop at halves))))
     ∙ (ap (λ items. out ++ item_lines (place + 2 * at) items) (sym first) ∙ before))

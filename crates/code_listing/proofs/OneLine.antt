@@ -10,7 +10,7 @@ use Rattle.listing_reader.specs.Lines.{cut_at}
 use Rattle.listing_reader.specs.Written.{IsOneLine, NumbersAreOneLine}
 use Rattle.code_listing.specs.declared.form.Fields.{Fields}
 use Rattle.code_listing.specs.Forms.{form_of}
-use Rattle.code_listing.specs.Lines.{field_text, fields_text, half_text, instruction_text, is_word, word_text}
+use Rattle.code_listing.specs.Lines.{field_text, fields_text, half_text, instruction_text, is_encoding, word_text}
 
 abbrev pub later_cut : ℕ → Option (List ℕ × List ℕ) → Option (List ℕ × List ℕ)
 later_cut x cut = option_map (λ cut. (x ∷ cut.0, cut.1)) cut
@@ -162,7 +162,7 @@ instruction-line i other numbers =
 
 pub word-line : (o : Option Inst) (word : ℕ) → NumbersAreOneLine → IsOneLine (word_text o word)
 word-line None word numbers = refl
-word-line (Some i) word numbers = instruction-line i (not (is_word (encode_of i) word)) numbers
+word-line (Some i) word numbers = instruction-line i (not (is_encoding (encode_of i) word)) numbers
 
 pub half-line : (o : Option Inst) (half : ℕ) → NumbersAreOneLine → IsOneLine (half_text o half)
 half-line None half numbers = refl

@@ -5,10 +5,10 @@ use Rattle.fc_numbers.specs.declared.places.Span.{Span}
 use Rattle.fc_numbers.specs.declared.places.TheConstants.{RAM_START}
 use Rattle.fc_numbers.specs.Spans.{offset_in, text_size}
 use Rattle.fc_numbers.specs.SpanLaws.{OffsetsAreBelow, OffsetsRise}
-use Rattle.function_table.specs.Groups.{Groups, IsGroups, IsRangeOf, in_text}
+use Rattle.function_table.specs.Groups.{Groups, IsGroups, IsRangeOf, in_groups_text}
 
 -- each place of the range is of text
-place-inside : (t : Groups) (g d : ℕ) (s : Span) → IsRangeOf t g s → s.start + d < s.end → in_text t (s.start + d) ≡ true
+place-inside : (t : Groups) (g d : ℕ) (s : Span) → IsRangeOf t g s → s.start + d < s.end → in_groups_text t (s.start + d) ≡ true
 place-inside t g d s range within = range.inside (s.start + d) (grind (arith, nat_tests, within))
 
 -- offsets go on with the places of the range, at least

@@ -12,10 +12,10 @@ halves_of (Wide low high) = low ∷ high ∷ []
 halves_of (Short half) = half ∷ []
 
 -- how many these are
-abbrev pub size_of : Item → ℕ
-size_of (Zeros count) = count
-size_of (Wide low high) = 2
-size_of (Short half) = 1
+abbrev pub size_of_item : Item → ℕ
+size_of_item (Zeros count) = count
+size_of_item (Wide low high) = 2
+size_of_item (Short half) = 1
 
 -- a halfword 0 in front of items: it joins the run that they begin with
 abbrev pub zero_before : List Item → List Item

@@ -11,7 +11,7 @@ use Rattle.code_listing.specs.declared.form.Fields.{Fields}
 use Rattle.code_listing.specs.declared.items.Item.{Item}
 use Rattle.code_listing.specs.declared.items.Item.TheVariants.{Zeros, Wide, Short}
 use Rattle.code_listing.specs.Forms.{form_of}
-use Rattle.code_listing.specs.Items.{size_of}
+use Rattle.code_listing.specs.Items.{size_of_item}
 
 -- a halfword in four digits of base 16, in lower case
 unfoldable pub half_digits : ℕ → List ℕ
@@ -29,14 +29,14 @@ fields_text f = field_text (codes "rd") f.rd ++ field_text (codes "rs1") f.rs1 +
 unfoldable pub instruction_text : Inst → Bool → List ℕ
 instruction_text i other = (form_of i).name ++ fields_text (form_of i).fields ++ (if other then codes " *" else [])
 
-abbrev pub is_word : Option ℕ → ℕ → Bool
-is_word None word = false
-is_word (Some own) word = own == word
+abbrev pub is_encoding : Option ℕ → ℕ → Bool
+is_encoding None word = false
+is_encoding (Some own) word = own == word
 
 -- what 32 bits mean: the instruction's own word is the least that means it
 abbrev pub word_text : Option Inst → ℕ → List ℕ
 word_text None word = codes "illegal"
-word_text (Some i) word = instruction_text i (not (is_word (encode_of i) word))
+word_text (Some i) word = instruction_text i (not (is_encoding (encode_of i) word))
 
 -- what 16 bits mean: the instruction's own halfword is the least that means it, its candidate
 abbrev pub half_text : Option Inst → ℕ → List ℕ
@@ -55,4 +55,4 @@ item_line place item = hex place ++ codes " " ++ item_text item ++ codes "\n"
 -- the lines of items, the first at this place
 abbrev pub item_lines : ℕ → List Item → List ℕ
 item_lines place [] = []
-item_lines place (item ∷ items) = item_line place item ++ item_lines (place + 2 * size_of item) items
+item_lines place (item ∷ items) = item_line place item ++ item_lines (place + 2 * size_of_item item) items

@@ -3,7 +3,7 @@
 ghost use Rattle.std.specs.Prelude.{◌≡◌, ◌≤◌, ◌<◌, ◌^◌, ◌==◌, ◌∷◌, length, drop};
 ghost use Rattle.std.specs.List.{prefix_len};
 ghost use Rattle.lane_kernels.specs.Kernels.{is_open};
-ghost use Rattle.code_listing.specs.Items.{items_of, size_of};
+ghost use Rattle.code_listing.specs.Items.{items_of, size_of_item};
 
 use function_table::halves::is_open_half;
 
@@ -20,7 +20,7 @@ pub(crate) enum Item {
 
 /// How many halfwords an item has.
 pub(crate) fn item_size(item: Item) -> usize
-    ensures { result ≡ size_of item }
+    ensures { result ≡ size_of_item item }
 {
     match item {
         Item::Zeros { count } => count as usize,
@@ -45,9 +45,9 @@ fn leading_zeros(halves: &[u16]) -> usize
 pub(crate) fn first_item(halves: &[u16]) -> Item
     requires some { 0 < length halves.now }
     requires few { length halves.now < 2 ^ 32 }
-    ensures first { items_of halves.now ≡ result ∷ items_of (drop (size_of result) halves.now) }
-    ensures forward { 0 < size_of result }
-    ensures within { size_of result ≤ length halves.now }
+    ensures first { items_of halves.now ≡ result ∷ items_of (drop (size_of_item result) halves.now) }
+    ensures forward { 0 < size_of_item result }
+    ensures within { size_of_item result ≤ length halves.now }
 {
     let half = halves[0];
     if half == 0 {

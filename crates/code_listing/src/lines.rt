@@ -5,7 +5,7 @@ ghost use Rattle.rv_decode.specs.Rows.{decode_of, decode16_of};
 ghost use Rattle.rv_words.specs.Words.{encode_of};
 ghost use Rattle.rv_words.specs.Candidates.{candidate_of};
 ghost use Rattle.code_listing.specs.Items.{items_of};
-ghost use Rattle.code_listing.specs.Lines.{half_text, is_word, item_line, item_lines, item_text, word_text};
+ghost use Rattle.code_listing.specs.Lines.{half_text, is_encoding, item_line, item_lines, item_text, word_text};
 
 use crate::items::{Item, first_item, item_size};
 use crate::text::{push_decimal, push_half, push_hex, push_instruction};
@@ -18,7 +18,7 @@ use std::alloc::Global;
 
 /// Whether the assembler gives this word for the instruction.
 fn is_own_word(i: &Inst, word: u32) -> bool
-    ensures { result ≡ is_word (encode_of i.now) word }
+    ensures { result ≡ is_encoding (encode_of i.now) word }
 {
     match encode(i) {
         Some(own) => own == word,

@@ -4,7 +4,7 @@ ghost use Rattle.std.specs.Prelude.{◌≡◌, ◌≤◌, ◌<◌, ◌+◌, ◌*
 ghost use Rattle.fc_numbers.specs.Spans.{offset_in, size_of, text_size};
 ghost use Rattle.fc_numbers.specs.Spans as spans;
 ghost use Rattle.guest_input.specs.Accepted.{IsImage};
-ghost use Rattle.function_table.specs.Groups.{groups_count, groups_of, in_text, range_of};
+ghost use Rattle.function_table.specs.Groups.{groups_count, groups_of, in_groups_text, range_of};
 ghost use Rattle.view_store.specs.Paged.{mask_of};
 ghost use Rattle.chain_log.specs.Line.{holder_of};
 ghost use Rattle.code_listing.specs.Listing.{group_text, halves_at, head_line, listing_of, text_of_group};
@@ -22,7 +22,7 @@ use view_store::view::View;
 /// The name of the function that holds a place of text.
 fn holder_name<'a>(image: &'a Image, table: &Table, at: Gpa) -> &'a [u8]
     requires table { table.now ≡ groups_of image.now }
-    requires text { in_text table.now at ≡ true }
+    requires text { in_groups_text table.now at ≡ true }
     ensures { result.now ≡ (holder_of image.now at).name }
 {
     let Some(n) = table.function_at(at) else {
@@ -41,7 +41,7 @@ fn push_head(
     range: Span,
 ) -> Result<(), NoMemory>
     requires table { table.now ≡ groups_of image.now }
-    requires text { in_text table.now range.start ≡ true }
+    requires text { in_groups_text table.now range.start ≡ true }
     ensures { OnOk result (out.new.items ≡ out.old.items ++ head_line image.now range) }
 {
     push_hex(alloc, out, range.start.0)?;

@@ -6,7 +6,7 @@ use Rattle.std.proofs.lemmas.Slice.Eq.{bytes_eq-Decides}
 use Rattle.fc_outside.specs.Outside.{Files, Faults, file_at, holding, SameBut, IsFaultOf}
 use Rattle.command_frame.specs.Answers.{word_at}
 use Rattle.command_frame.specs.Finished.{Outside, written, IsLost, IsDelivered, IsFileLost, IsOutLost, IsDone, Finishes}
-use Rattle.command_frame.specs.Promise.{Request, Told, Keeps, Refuses, Reaches}
+use Rattle.command_frame.specs.Promise.{Request, FileContents, Keeps, Refuses, Reaches}
 use Rattle.command_frame.specs.Command.{IsAmong, MakeSaid, MakeCounts, HasOutputs, IsSaid, SameOthers, IsAsBefore, IsAnswer}
 use Rattle.command_frame.specs.declared.answer.Answer.{Answer}
 use Rattle.command_frame.specs.declared.answer.Answer.TheVariants.{Served, Refused, Unread, Unwritten, NoMemory}
@@ -52,7 +52,7 @@ lost-others words fs n b a l = λ q others. l.others q (others n (lost-among wor
     ∙ written-others words (take l.at fs) b q (λ m h. others m (take-among fs l.at m h))
 
 module _ (r : Request) (b : Outside) (a : Outside) where
-  done-answer : (p : Product) (x : Answer) → ((at : Told) → b.files ≡ Some at → Keeps r.words at p r.promise) → map (λ (f : Written). f.word) p.files ≡ r.outputs
+  done-answer : (p : Product) (x : Answer) → ((at : FileContents) → b.files ≡ Some at → Keeps r.words at p r.promise) → map (λ (f : Written). f.word) p.files ≡ r.outputs
       → IsDone r.words p b a x → IsAnswer r b a x
   done-answer p (Served ended) said outputs k = record {
     said = λ at told. (p, said at told, k);
@@ -79,7 +79,7 @@ module _ (r : Request) (b : Outside) (a : Outside) where
   done-answer p (Unread n) said outputs k = absurd k
   done-answer p NoMemory said outputs k = absurd k
 
-  pub answered : (reads : Faults) (made : Result Product Refusal) (x : Answer) → ((at : Told) → b.files ≡ Some at → MakeSaid r at made) → MakeCounts r b.reads reads made
+  pub answered : (reads : Faults) (made : Result Product Refusal) (x : Answer) → ((at : FileContents) → b.files ≡ Some at → MakeSaid r at made) → MakeCounts r b.reads reads made
       → HasOutputs r made → Finishes r.words made (record b { reads = reads }) a x → IsAnswer r b a x
   answered reads (Ok p) x said counts outputs k = done-answer p x said outputs (subst (λ (n : Faults). IsDone r.words p (record b { reads = n }) a x) counts k)
   answered reads (Err (no.Fault why)) x said counts outputs k =

@@ -1,7 +1,7 @@
 -- That each cause has its answer, along every promise.
 use Rattle.std.proofs.Common.{◌≡◌, ℕ, refl, ◌∙◌, sym, ap, subst, Some, None, List, ◌⊎◌, inl, inr}
 use Rattle.command_frame.specs.Finished.{Outside}
-use Rattle.command_frame.specs.Promise.{Promise, takes, makes, Request, Told, held_by, Keeps, Accepts, RefusesFile, MakesNot}
+use Rattle.command_frame.specs.Promise.{Promise, takes, makes, Request, FileContents, held_by, Keeps, Accepts, RefusesFile, MakesNot}
 use Rattle.command_frame.specs.Command.{IsAnswer}
 use Rattle.command_frame.specs.Exact.{AreSure, IsFaultFree, AcceptedFilesAnswer, RefusedFilesAnswer}
 use Rattle.command_frame.specs.declared.fault.Fault.{Fault}
@@ -9,7 +9,7 @@ use Rattle.command_frame.specs.declared.answer.Answer.{Answer}
 use Rattle.command_frame.specs.declared.answer.Answer.TheVariants.{Served, Refused, Unread, Unwritten, NoMemory}
 use Rattle.command_frame.specs.declared.product.Product.{Product}
 
-module _ (words : List (List ℕ)) (at : Told) where
+module _ (words : List (List ℕ)) (at : FileContents) where
   kept-accepts : (promise : Promise) (p : Product) → Keeps words at p promise → Accepts words at promise
   kept-accepts (takes T Gives Refuses n rest) p k = (k.0, k.1, kept-accepts (rest k.0) p k.2)
   kept-accepts (makes Is Fails) p k = tt

@@ -6,7 +6,7 @@ use Rattle.fc_outside.specs.Outside.{Files, Faults, file_at, IsFaultOf, IsFault}
 use Rattle.command_frame.specs.Answers.{word_at, answer_line, status_of}
 use Rattle.command_frame.specs.Lines.{number_of, line_with}
 use Rattle.command_frame.specs.Finished.{Outside, IsDelivered, IsFileLost, IsOutLost}
-use Rattle.command_frame.specs.Promise.{Promise, Request, Told, Keeps, Refuses, Reaches}
+use Rattle.command_frame.specs.Promise.{Promise, Request, FileContents, Keeps, Refuses, Reaches}
 use Rattle.command_frame.specs.declared.fault.Fault.{Fault}
 use Rattle.command_frame.specs.declared.answer.Ended.{Ended}
 use Rattle.command_frame.specs.declared.answer.Answer.{Answer}
@@ -23,13 +23,13 @@ IsAmong [] n = ⊥
 IsAmong (m ∷ ms) n = (n ≡ m) ⊎ IsAmong ms n
 
 -- why nothing is made of the files that are told
-abbrev pub MakesNothing : List (List ℕ) → Told → Promise → Refusal → Type 0
+abbrev pub MakesNothing : List (List ℕ) → FileContents → Promise → Refusal → Type 0
 MakesNothing words at promise (no.Fault why) = Refuses words at why promise
 MakesNothing words at promise (no.Unread n) = Reaches words at n promise
 MakesNothing words at promise no.NoMemory = Unit {0}
 
 -- what is made of the files that are told, or why nothing is
-abbrev pub MakeSaid : Request → Told → Result Product Refusal → Type 0
+abbrev pub MakeSaid : Request → FileContents → Result Product Refusal → Type 0
 MakeSaid r at (Ok p) = Keeps r.words at p r.promise
 MakeSaid r at (Err why) = MakesNothing r.words at r.promise why
 
@@ -43,11 +43,11 @@ abbrev pub HasOutputs : Request → Result Product Refusal → Type 0
 HasOutputs r result = IfOk result (λ p. map (λ (f : Written). f.word) p.files ≡ r.outputs)
 
 -- the files are accepted, and their product was made, of which this holds
-abbrev pub HasMade : Request → Told → (Product → Type 0) → Type 0
+abbrev pub HasMade : Request → FileContents → (Product → Type 0) → Type 0
 HasMade r at Is = (p : Product) × Keeps r.words at p r.promise × Is p
 
 -- what an answer says of the files, of the product and of where it is
-abbrev pub IsSaid : Request → Told → Outside → Outside → Answer → Type 0
+abbrev pub IsSaid : Request → FileContents → Outside → Outside → Answer → Type 0
 IsSaid r at before after (Served ended) = HasMade r at (λ p. (ended ≡ p.ended) × IsDelivered r.words p before after)
 IsSaid r at before after (Unwritten (Some n)) = HasMade r at (λ p. IsFileLost r.words p n before after)
 IsSaid r at before after (Unwritten None) = HasMade r at (λ p. IsOutLost r.words p before after)
@@ -87,7 +87,7 @@ IsKept r before after other = IsAsBefore before after
 
 -- what an answer to a request means
 pub record IsAnswer (r : Request) (before after : Outside) (answer : Answer) : Type 0 where
-  pub said : (at : Told) → before.files ≡ Some at → IsSaid r at before after answer
+  pub said : (at : FileContents) → before.files ≡ Some at → IsSaid r at before after answer
   pub reads : CountsReads r before.reads after.reads answer
   pub writes : CountsWrites r before.writes after.writes answer
   pub puts : CountsPuts before.puts after.puts answer

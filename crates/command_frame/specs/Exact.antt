@@ -2,7 +2,7 @@
 use Rattle.std.specs.Prelude.{◌≡◌, ℕ, ◌⊎◌, Option, Some, List}
 use Rattle.fc_outside.specs.Outside.{Rose}
 use Rattle.command_frame.specs.Finished.{Outside, IsDelivered}
-use Rattle.command_frame.specs.Promise.{Promise, takes, makes, Request, Told, Accepts, RefusesFile, MakesNot}
+use Rattle.command_frame.specs.Promise.{Promise, takes, makes, Request, FileContents, Accepts, RefusesFile, MakesNot}
 use Rattle.command_frame.specs.Command.{HasMade, IsAnswer}
 use Rattle.command_frame.specs.declared.fault.Fault.{Fault}
 use Rattle.command_frame.specs.declared.answer.Ended.{Ended}
@@ -27,19 +27,19 @@ pub record IsFaultFree (before after : Outside) : Type 0 where
   pub puts : Rose before.puts after.puts → ⊥
 
 -- the request was served: its product is where it belongs
-abbrev pub IsMade : Request → Told → Outside → Outside → Answer → Type 0
+abbrev pub IsMade : Request → FileContents → Outside → Outside → Answer → Type 0
 IsMade r at before after answer = (ended : Ended) × (answer ≡ Served ended) × HasMade r at (λ p. (ended ≡ p.ended) × IsDelivered r.words p before after)
 
 -- nothing can be made of the files
-abbrev pub IsNotMade : Request → Told → Answer → Type 0
+abbrev pub IsNotMade : Request → FileContents → Answer → Type 0
 IsNotMade r at answer = (why : Fault) × (answer ≡ Refused why) × MakesNot r.words at why r.promise
 
 -- where all input files are accepted, the answer is that of the product, or why there is none
 abbrev pub AcceptedFilesAnswer : Request → Type 0
-AcceptedFilesAnswer r = (before after : Outside) (answer : Answer) (at : Told) → before.files ≡ Some at → IsAnswer r before after answer → IsFaultFree before after
+AcceptedFilesAnswer r = (before after : Outside) (answer : Answer) (at : FileContents) → before.files ≡ Some at → IsAnswer r before after answer → IsFaultFree before after
     → Accepts r.words at r.promise → (answer ≡ NoMemory) ⊎ (IsMade r at before after answer ⊎ IsNotMade r at answer)
 
 -- where a file is refused, the answer is that refusal
 abbrev pub RefusedFilesAnswer : Request → Type 0
-RefusedFilesAnswer r = (before after : Outside) (answer : Answer) (at : Told) (why : Fault) → before.files ≡ Some at → IsAnswer r before after answer
+RefusedFilesAnswer r = (before after : Outside) (answer : Answer) (at : FileContents) (why : Fault) → before.files ≡ Some at → IsAnswer r before after answer
     → IsFaultFree before after → RefusesFile r.words at why r.promise → (answer ≡ NoMemory) ⊎ (answer ≡ Refused why)

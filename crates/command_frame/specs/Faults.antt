@@ -2,8 +2,8 @@
 -- Numbers and texts are those of this project's table of answers.
 use Rattle.std.specs.Prelude.{ℕ, List, codes}
 use Rattle.guest_image.specs.Faults.{image_fault_text, setup_fault_text}
-use Rattle.view_file.specs.Faults.{shown_fault as shown_views_fault}
-use Rattle.trace_file.specs.Faults.{shown_fault as shown_trace_fault}
+use Rattle.view_file.specs.Faults.{shown_views_fault as shown_views_fault}
+use Rattle.trace_file.specs.Faults.{shown_trace_fault as shown_trace_fault}
 use Rattle.command_frame.specs.declared.fault.Kind.{Kind}
 use Rattle.command_frame.specs.declared.fault.Kind.TheVariants as kind
 use Rattle.command_frame.specs.declared.fault.Fault.{Fault}

@@ -47,37 +47,37 @@ pub record Request : Type 1 where
   pub promise : Promise
 
 -- what each name holds
-abbrev pub Told : Type 0
-Told = List ℕ → Option (List ℕ)
+abbrev pub FileContents : Type 0
+FileContents = List ℕ → Option (List ℕ)
 
 -- what the word at a place names holds
-abbrev pub held_by : List (List ℕ) → Told → ℕ → Option (List ℕ)
+abbrev pub held_by : List (List ℕ) → FileContents → ℕ → Option (List ℕ)
 held_by words at n = at (word_at words n)
 
 -- all input files are accepted, and this is made of them
-abbrev pub Keeps : List (List ℕ) → Told → Product → Promise → Type 0
+abbrev pub Keeps : List (List ℕ) → FileContents → Product → Promise → Type 0
 Keeps words at product (takes T Gives Refuses n rest) = (t : T) × Gives (held_by words at n) t × Keeps words at product (rest t)
 Keeps words at product (makes Is Fails) = Is product
 
 -- all input files are accepted
-abbrev pub Accepts : List (List ℕ) → Told → Promise → Type 0
+abbrev pub Accepts : List (List ℕ) → FileContents → Promise → Type 0
 Accepts words at (takes T Gives Refuses n rest) = (t : T) × Gives (held_by words at n) t × Accepts words at (rest t)
 Accepts words at (makes Is Fails) = Unit {0}
 
 -- the input files before one are accepted, and this one is refused
-abbrev pub RefusesFile : List (List ℕ) → Told → Fault → Promise → Type 0
+abbrev pub RefusesFile : List (List ℕ) → FileContents → Fault → Promise → Type 0
 RefusesFile words at why (takes T Gives Refuses n rest) = Refuses (held_by words at n) why ⊎ ((t : T) × Gives (held_by words at n) t × RefusesFile words at why (rest t))
 RefusesFile words at why (makes Is Fails) = ⊥
 
 -- all input files are accepted, and nothing is made of them
-abbrev pub MakesNot : List (List ℕ) → Told → Fault → Promise → Type 0
+abbrev pub MakesNot : List (List ℕ) → FileContents → Fault → Promise → Type 0
 MakesNot words at why (takes T Gives Refuses n rest) = (t : T) × Gives (held_by words at n) t × MakesNot words at why (rest t)
 MakesNot words at why (makes Is Fails) = Fails why
 
-abbrev pub Refuses : List (List ℕ) → Told → Fault → Promise → Type 0
+abbrev pub Refuses : List (List ℕ) → FileContents → Fault → Promise → Type 0
 Refuses words at why promise = RefusesFile words at why promise ⊎ MakesNot words at why promise
 
 -- the input files before that of place m are accepted
-abbrev pub Reaches : List (List ℕ) → Told → ℕ → Promise → Type 0
+abbrev pub Reaches : List (List ℕ) → FileContents → ℕ → Promise → Type 0
 Reaches words at m (takes T Gives Refuses n rest) = (m ≡ n) ⊎ ((t : T) × Gives (held_by words at n) t × Reaches words at m (rest t))
 Reaches words at m (makes Is Fails) = ⊥

@@ -20,8 +20,8 @@ abbrev pub BytesSaid : Option (List ℕ) → Kind → ℕ → Result (Vec ℕ Gl
 BytesSaid held kind n result = Takes (λ bytes. held ≡ Some bytes.items) (λ why. (why ≡ TooLong kind) × IsTooLong held) n result
 
 -- a fault is counted where the file was not read, and nowhere else
-abbrev pub Counts : {T : Type 0} → List ℕ → ℕ → Faults → Faults → Result T Refusal → Type 0
-Counts name n before after (Ok t) = after ≡ before
-Counts name n before after (Err (no.Fault why)) = after ≡ before
-Counts name n before after (Err (no.Unread m)) = (m ≡ n) × IsFaultOf name before after
-Counts name n before after (Err no.NoMemory) = after ≡ before
+abbrev pub CountsFault : {T : Type 0} → List ℕ → ℕ → Faults → Faults → Result T Refusal → Type 0
+CountsFault name n before after (Ok t) = after ≡ before
+CountsFault name n before after (Err (no.Fault why)) = after ≡ before
+CountsFault name n before after (Err (no.Unread m)) = (m ≡ n) × IsFaultOf name before after
+CountsFault name n before after (Err no.NoMemory) = after ≡ before

@@ -2,8 +2,8 @@
 
 ghost use Rattle.std.specs.Prelude.{◌≡◌, codes, string_bytes, IfOk};
 ghost use Rattle.guest_image.specs.Faults.{image_fault_text, setup_fault_text};
-ghost use Rattle.view_file.specs.Faults.{shown_fault as shown_views_fault};
-ghost use Rattle.trace_file.specs.Faults.{shown_fault as shown_trace_fault};
+ghost use Rattle.view_file.specs.Faults.{shown_views_fault as shown_views_fault};
+ghost use Rattle.trace_file.specs.Faults.{shown_trace_fault as shown_trace_fault};
 ghost use Rattle.command_frame.specs.Faults.{file_kind, kind_status, kind_word, fault_text};
 
 use crate::status::Status;

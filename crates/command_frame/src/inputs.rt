@@ -6,11 +6,11 @@ ghost use Rattle.guest_input.specs.Accepted.{IsImage, IsSetupFor};
 ghost use Rattle.function_table.specs.Groups.{groups_of};
 ghost use Rattle.view_file.specs.Fits.{IsViewsFor};
 ghost use Rattle.command_frame.specs.Answers.{word_at};
-ghost use Rattle.trace_file.specs.Trace.{told};
-ghost use Rattle.trace_file.specs.Lawful.{IsLawful};
+ghost use Rattle.trace_file.specs.Trace.{told_of_trace};
+ghost use Rattle.trace_file.specs.Lawful.{IsLawfulTrace};
 ghost use Rattle.command_frame.specs.Files.{IsHeld, IsTooLong, GivesImage, RefusesImage, GivesSetup, RefusesSetup, GivesViews, RefusesViews, GivesFreeViews, RefusesFreeViews, GivesScript, RefusesScript, GivesTrace, RefusesTrace};
-ghost use Rattle.command_frame.specs.Promise.{Told, held_by};
-ghost use Rattle.command_frame.specs.Taken.{BytesSaid, Takes, Counts};
+ghost use Rattle.command_frame.specs.Promise.{FileContents, held_by};
+ghost use Rattle.command_frame.specs.Taken.{BytesSaid, Takes, CountsFault};
 
 use crate::answer::word_at;
 use crate::fault::{Fault, Kind};
@@ -46,8 +46,8 @@ fn take_bytes<S: Store>(
     kind: Kind,
 ) -> Result<Vec<u8>, Refusal>
     ensures within { IfOk result (λ bytes. length bytes.items ≤ FILE_MOST) }
-    ensures said { (told : Told) → S.files store.old ≡ Some told → BytesSaid (held_by (map string_bytes words.now) told at) kind at result }
-    ensures counted { Counts (word_at (map string_bytes words.now) at) at (S.reads store.old) (S.reads store.new) result }
+    ensures said { (told_of_trace : FileContents) → S.files store.old ≡ Some told_of_trace → BytesSaid (held_by (map string_bytes words.now) told_of_trace at) kind at result }
+    ensures counted { CountsFault (word_at (map string_bytes words.now) at) at (S.reads store.old) (S.reads store.new) result }
     ensures files { S.files store.new ≡ S.files store.old }
     ensures writes { S.writes store.new ≡ S.writes store.old }
 {
@@ -67,9 +67,9 @@ pub fn take_image<S: Store>(
     at: usize,
 ) -> Result<Image, Refusal>
     ensures lawful { IfOk result (λ image. IsImage image) }
-    ensures said { (told : Told) → S.files store.old ≡ Some told
-        → let held = held_by (map string_bytes words.now) told at in Takes (GivesImage held) (RefusesImage held) at result }
-    ensures counted { Counts (word_at (map string_bytes words.now) at) at (S.reads store.old) (S.reads store.new) result }
+    ensures said { (told_of_trace : FileContents) → S.files store.old ≡ Some told_of_trace
+        → let held = held_by (map string_bytes words.now) told_of_trace at in Takes (GivesImage held) (RefusesImage held) at result }
+    ensures counted { CountsFault (word_at (map string_bytes words.now) at) at (S.reads store.old) (S.reads store.new) result }
     ensures files { S.files store.new ≡ S.files store.old }
     ensures writes { S.writes store.new ≡ S.writes store.old }
 {
@@ -90,9 +90,9 @@ pub fn take_setup<S: Store>(
     image: &Image,
 ) -> Result<Setup, Refusal>
     ensures lawful { IfOk result (λ setup. IsSetupFor image.now setup) }
-    ensures said { (told : Told) → S.files store.old ≡ Some told
-        → let held = held_by (map string_bytes words.now) told at in Takes (GivesSetup held image.now) (RefusesSetup held image.now) at result }
-    ensures counted { Counts (word_at (map string_bytes words.now) at) at (S.reads store.old) (S.reads store.new) result }
+    ensures said { (told_of_trace : FileContents) → S.files store.old ≡ Some told_of_trace
+        → let held = held_by (map string_bytes words.now) told_of_trace at in Takes (GivesSetup held image.now) (RefusesSetup held image.now) at result }
+    ensures counted { CountsFault (word_at (map string_bytes words.now) at) at (S.reads store.old) (S.reads store.new) result }
     ensures files { S.files store.new ≡ S.files store.old }
     ensures writes { S.writes store.new ≡ S.writes store.old }
 {
@@ -115,9 +115,9 @@ pub fn take_views<S: Store>(
 ) -> Result<Views, Refusal>
     requires table { table.now ≡ groups_of image.now }
     ensures lawful { IfOk result (λ views. IsViewsFor views image.now) }
-    ensures said { (told : Told) → S.files store.old ≡ Some told
-        → let held = held_by (map string_bytes words.now) told at in Takes (GivesViews held image.now) (RefusesViews held image.now) at result }
-    ensures counted { Counts (word_at (map string_bytes words.now) at) at (S.reads store.old) (S.reads store.new) result }
+    ensures said { (told_of_trace : FileContents) → S.files store.old ≡ Some told_of_trace
+        → let held = held_by (map string_bytes words.now) told_of_trace at in Takes (GivesViews held image.now) (RefusesViews held image.now) at result }
+    ensures counted { CountsFault (word_at (map string_bytes words.now) at) at (S.reads store.old) (S.reads store.new) result }
     ensures files { S.files store.new ≡ S.files store.old }
     ensures writes { S.writes store.new ≡ S.writes store.old }
 {
@@ -136,9 +136,9 @@ pub fn take_free_views<S: Store>(
     words: &[String],
     at: usize,
 ) -> Result<Views, Refusal>
-    ensures said { (told : Told) → S.files store.old ≡ Some told
-        → let held = held_by (map string_bytes words.now) told at in Takes (GivesFreeViews held) (RefusesFreeViews held) at result }
-    ensures counted { Counts (word_at (map string_bytes words.now) at) at (S.reads store.old) (S.reads store.new) result }
+    ensures said { (told_of_trace : FileContents) → S.files store.old ≡ Some told_of_trace
+        → let held = held_by (map string_bytes words.now) told_of_trace at in Takes (GivesFreeViews held) (RefusesFreeViews held) at result }
+    ensures counted { CountsFault (word_at (map string_bytes words.now) at) at (S.reads store.old) (S.reads store.new) result }
     ensures files { S.files store.new ≡ S.files store.old }
     ensures writes { S.writes store.new ≡ S.writes store.old }
 {
@@ -160,9 +160,9 @@ pub fn take_script<S: Store>(
 ) -> Result<Vec<VcpuNo>, Refusal>
     requires some { 1 ≤ vcpus }
     requires most { vcpus ≤ VCPUS_MOST }
-    ensures said { (told : Told) → S.files store.old ≡ Some told
-        → let held = held_by (map string_bytes words.now) told at in Takes (λ script. GivesScript held vcpus script.items) (RefusesScript held vcpus) at result }
-    ensures counted { Counts (word_at (map string_bytes words.now) at) at (S.reads store.old) (S.reads store.new) result }
+    ensures said { (told_of_trace : FileContents) → S.files store.old ≡ Some told_of_trace
+        → let held = held_by (map string_bytes words.now) told_of_trace at in Takes (λ script. GivesScript held vcpus script.items) (RefusesScript held vcpus) at result }
+    ensures counted { CountsFault (word_at (map string_bytes words.now) at) at (S.reads store.old) (S.reads store.new) result }
     ensures files { S.files store.new ≡ S.files store.old }
     ensures writes { S.writes store.new ≡ S.writes store.old }
 {
@@ -181,10 +181,10 @@ pub fn take_trace<S: Store>(
     words: &[String],
     at: usize,
 ) -> Result<Trace, Refusal>
-    ensures lawful { IfOk result (λ trace. IsLawful (told trace)) }
-    ensures said { (files : Told) → S.files store.old ≡ Some files
-        → let held = held_by (map string_bytes words.now) files at in Takes (λ trace. GivesTrace held (told trace)) (RefusesTrace held) at result }
-    ensures counted { Counts (word_at (map string_bytes words.now) at) at (S.reads store.old) (S.reads store.new) result }
+    ensures lawful { IfOk result (λ trace. IsLawfulTrace (told_of_trace trace)) }
+    ensures said { (files : FileContents) → S.files store.old ≡ Some files
+        → let held = held_by (map string_bytes words.now) files at in Takes (λ trace. GivesTrace held (told_of_trace trace)) (RefusesTrace held) at result }
+    ensures counted { CountsFault (word_at (map string_bytes words.now) at) at (S.reads store.old) (S.reads store.new) result }
     ensures files { S.files store.new ≡ S.files store.old }
     ensures writes { S.writes store.new ≡ S.writes store.old }
 {

@@ -6,11 +6,11 @@ use Rattle.guest_input.specs.declared.setup.Event.{Event}
 use Rattle.guest_input.specs.declared.setup.What.{What}
 use Rattle.guest_input.specs.declared.setup.What.TheVariants.{Key, Raise, Drop}
 use Rattle.device_feed.specs.declared.lists.DueKey.{DueKey}
-use Rattle.device_feed.specs.Devices.{due, keys_of, with_key}
+use Rattle.device_feed.specs.Devices.{due_events, keys_of, with_key}
 use Rattle.device_feed.specs.Lists.{due_keys_of, with_due_key, if_due}
 
 -- where the first event is not due, none is
-pub none_due : (vcpus low clock : ℕ) (es : List Event) → AreEvents vcpus low es → clock < low → due clock es ≡ []
+pub none_due : (vcpus low clock : ℕ) (es : List Event) → AreEvents vcpus low es → clock < low → due_events clock es ≡ []
 none_due vcpus low clock [] h m = refl
 none_due vcpus low clock (e ∷ es) h m =
     let first : low ≤ e.at = h.0 in
@@ -38,16 +38,16 @@ due_here clock at (Key byte) now keys (suc n) pass rest = rest n
 due_here clock at (Raise v) now keys n pass rest = rest n
 due_here clock at (Drop v) now keys n pass rest = rest n
 
-due_cases : (b : Bool) (vcpus low clock : ℕ) (e : Event) (es : List Event) (n : ℕ) → leb e.at clock ≡ b → AreEvents vcpus low (e ∷ es) → ((k : ℕ) → slice_get (keys_of (due clock es)) k ≡ if_due clock (slice_get (due_keys_of es) k)) → slice_get (keys_of (due clock (e ∷ es))) n ≡ if_due clock (slice_get (due_keys_of (e ∷ es)) n)
+due_cases : (b : Bool) (vcpus low clock : ℕ) (e : Event) (es : List Event) (n : ℕ) → leb e.at clock ≡ b → AreEvents vcpus low (e ∷ es) → ((k : ℕ) → slice_get (keys_of (due_events clock es)) k ≡ if_due clock (slice_get (due_keys_of es) k)) → slice_get (keys_of (due_events clock (e ∷ es))) n ≡ if_due clock (slice_get (due_keys_of (e ∷ es)) n)
 unfolding due_keys_of
-due_cases true vcpus low clock e es n pass h rest = rw pass (due_here clock e.at e.what (keys_of (due clock es)) (due_keys_of es) n pass rest)
+due_cases true vcpus low clock e es n pass h rest = rw pass (due_here clock e.at e.what (keys_of (due_events clock es)) (due_keys_of es) n pass rest)
 due_cases false vcpus low clock e es n fail h rest =
     let more : clock < e.at = grind arith in
-    let none : due clock es ≡ [] = none_due vcpus e.at clock es h.2 more in
+    let none : due_events clock es ≡ [] = none_due vcpus e.at clock es h.2 more in
     rw (fail, none) (sym (late_key clock e.at e.what (due_keys_of es) n more (λ k. late vcpus e.at clock es k h.2 more)))
 
 -- the first due key that was not taken stands after those that were
-pub due_key_at : (vcpus low clock : ℕ) (es : List Event) (n : ℕ) → AreEvents vcpus low es → slice_get (keys_of (due clock es)) n ≡ if_due clock (slice_get (due_keys_of es) n)
+pub due_key_at : (vcpus low clock : ℕ) (es : List Event) (n : ℕ) → AreEvents vcpus low es → slice_get (keys_of (due_events clock es)) n ≡ if_due clock (slice_get (due_keys_of es) n)
 unfolding due_keys_of
 due_key_at vcpus low clock [] n h = refl
 due_key_at vcpus low clock (e ∷ es) n h = due_cases (leb e.at clock) vcpus low clock e es n refl h (λ k. due_key_at vcpus e.at clock es k h.2)

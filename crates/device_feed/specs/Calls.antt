@@ -23,13 +23,13 @@ abbrev pub key_answer : Option ℕ → ℕ
 key_answer None = 2 ^ 64 - 1
 key_answer (Some byte) = byte
 
-abbrev pub has_bit : ℕ → ℕ → Bool
-has_bit mask k = mask / 2 ^ k % 2 == 1
+abbrev pub mask_has_bit : ℕ → ℕ → Bool
+mask_has_bit mask k = mask / 2 ^ k % 2 == 1
 
 -- base plus the number of each set bit among the lowest n bits of a mask
 unfoldable pub named : ℕ → ℕ → ℕ → List ℕ
 named mask base zero = []
-named mask base (suc k) = if has_bit mask k then (base + k) ∷ named mask base k else named mask base k
+named mask base (suc k) = if mask_has_bit mask k then (base + k) ∷ named mask base k else named mask base k
 
 abbrev pub names_all : ℕ → Bool
 names_all base = base == 2 ^ 64 - 1

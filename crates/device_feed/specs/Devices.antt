@@ -27,8 +27,8 @@ abbrev pub timer_of : Devices → ℕ → ℕ
 timer_of d v = slice_index d.timer v
 
 -- the events that are due at a clock
-abbrev pub due : ℕ → List Event → List Event
-due clock events = filter (λ e. nat_le e.at clock) events
+abbrev pub due_events : ℕ → List Event → List Event
+due_events clock events = filter (λ e. nat_le e.at clock) events
 
 -- the external line of v after an event, where `up` says how it was before
 abbrev pub line_after : ℕ → Bool → What → Bool
@@ -42,7 +42,7 @@ line_after_all v up [] = up
 line_after_all v up (e ∷ es) = line_after_all v (line_after v up e.what) es
 
 abbrev pub is_raised : Devices → ℕ → ℕ → Bool
-is_raised d v clock = line_after_all v false (due clock d.events)
+is_raised d v clock = line_after_all v false (due_events clock d.events)
 
 -- bit 1 is the software interrupt, bit 5 the timer and bit 9 the external one; an unknown vCPU has no lines
 abbrev pub lines_of : Devices → ℕ → ℕ → ℕ
@@ -70,7 +70,7 @@ keys_of (e ∷ es) = with_key e.what (keys_of es)
 
 -- the first due key that was not yet taken
 abbrev pub due_key : Devices → ℕ → Option ℕ
-due_key d clock = slice_get (keys_of (due clock d.events)) d.taken
+due_key d clock = slice_get (keys_of (due_events clock d.events)) d.taken
 
 -- the devices after the first due key was taken, if there is one
 abbrev pub with_key_taken : Devices → ℕ → Devices

@@ -3,7 +3,7 @@
 ghost use Rattle.std.specs.Prelude.{◌≡◌, ◌≤◌, ◌<◌, ◌+◌, IfOk, IsSome, length, take, slice_get};
 ghost use Rattle.std.specs.List.Sorted.{IsNonDecreasingBy};
 ghost use Rattle.guest_input.specs.declared.setup.Event.{Event};
-ghost use Rattle.device_feed.specs.Devices.{due};
+ghost use Rattle.device_feed.specs.Devices.{due_events};
 ghost use Rattle.device_feed.specs.Lists.{no_levels, levels_after, levels_from, due_keys_of, if_due};
 
 use fc_numbers::memory::NoMemory;
@@ -73,7 +73,7 @@ pub fn keys_of(alloc: Global, events: &[Event]) -> Result<Vec<DueKey>, NoMemory>
 pub fn due_count(events: &[Event], clock: u64) -> usize
     requires { IsNonDecreasingBy (λ (e : Event). e.at) events.now }
     ensures within { result ≤ length events.now }
-    ensures due { due clock events.now ≡ take result events.now }
+    ensures due { due_events clock events.now ≡ take result events.now }
 {
     events.partition_point(|event| event.at <= clock)
 }

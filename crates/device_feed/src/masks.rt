@@ -1,7 +1,7 @@
 //! The vCPUs that a mask and its base name (SBI specification, "Hart list parameter").
 
 ghost use Rattle.std.specs.Prelude.{◌≡◌, ◌<◌, ◌+◌, nat_lt, true, length, replicate};
-ghost use Rattle.device_feed.specs.Calls.{has_bit, are_vcpus, named, with_bits};
+ghost use Rattle.device_feed.specs.Calls.{mask_has_bit, are_vcpus, named, with_bits};
 
 /// The bits of a mask.
 const BITS: u64 = 64;
@@ -9,7 +9,7 @@ const BITS: u64 = 64;
 /// Whether bit k of the mask is set.
 fn has_bit(mask: u64, k: u64) -> bool
     requires { k < 64 }
-    ensures { result ≡ has_bit mask k }
+    ensures { result ≡ mask_has_bit mask k }
 {
     (mask >> k) % 2 == 1
 }

@@ -21,7 +21,7 @@ use Rattle.elf_read.specs.declared.parts.ElfParts.{ElfParts}
 use Rattle.elf_read.specs.Laid.{Layout}
 use Rattle.elf_read.specs.Steps.{must, or_fault}
 use Rattle.elf_read.specs.Starts.{functions_in}
-use Rattle.elf_read.specs.Kernel.{is_text, is_in_ram, is_at_page, in_order, are_apart_from, pages_of, joined, text_spans, text_bytes, page_bytes, part_of, is_beside, are_in_place, are_placed, is_odd_in, is_even_in, entry_in, kernel_at, kernel_in, kernel_of_laid, image_with}
+use Rattle.elf_read.specs.Kernel.{is_nonempty_code, is_in_ram, is_at_page, in_order, are_apart_from, pages_of_segment, joined, text_spans, text_bytes, page_bytes, part_of, is_beside, are_in_place, are_placed, is_odd_in, is_even_in, entry_in, kernel_at, kernel_in, kernel_of_laid, image_with}
 use Rattle.elf_read.proofs.Passing.{both, is_false, eqb_true, leb_true, bind_ok, must_ok, or_fault_ok, same_Ok}
 use Rattle.elf_read.proofs.Segments.{in_ram, passes-in_order}
 use Rattle.elf_read.proofs.Texts.{IsCode, length-filled, ranges_same, spans_law, spans_few, spans_fit, text_law}
@@ -118,7 +118,7 @@ placed_law code parts h =
     let c = in_place_law code parts b.0 in
     record { inside = c.0; page = c.1; parts = c.2; apart = b.1; beside = a.1 }
 
-in_law : (l : Layout) (k : ElfParts) (digest : List ℕ) → is_text l.code ≡ true → length l.code ≤ RANGES_MOST → Placed l.code l.parts → kernel_in l (text_spans l.code) ≡ Ok k
+in_law : (l : Layout) (k : ElfParts) (digest : List ℕ) → is_nonempty_code l.code ≡ true → length l.code ≤ RANGES_MOST → Placed l.code l.parts → kernel_in l (text_spans l.code) ≡ Ok k
     → IsImage (image_with digest k)
 unfolding kernel_in
 in_law l k digest text few placed h =
@@ -142,11 +142,11 @@ in_law l k digest text few placed h =
 pub laid_law : (l : Layout) (k : ElfParts) (digest : List ℕ) → kernel_of_laid l ≡ Ok k → IsImage (image_with digest k)
 unfolding kernel_of_laid
 laid_law l k digest h =
-    let a = bind_ok (must NoText (is_text l.code)) _ k h in
+    let a = bind_ok (must NoText (is_nonempty_code l.code)) _ k h in
     let b = bind_ok (must TooManyTexts (nat_le (length l.code) RANGES_MOST)) _ k a.2 in
     let c = bind_ok (must WritableText (not l.writable)) _ k b.2 in
     let d = bind_ok (must Misplaced (are_placed l.code l.parts)) _ k c.2 in
-    in_law l k digest (must_ok NoText (is_text l.code) a.0 a.1) (leb_true (length l.code) RANGES_MOST (must_ok TooManyTexts _ b.0 b.1)) (placed_law l.code l.parts (must_ok Misplaced (are_placed l.code l.parts) d.0 d.1)) d.2
+    in_law l k digest (must_ok NoText (is_nonempty_code l.code) a.0 a.1) (leb_true (length l.code) RANGES_MOST (must_ok TooManyTexts _ b.0 b.1)) (placed_law l.code l.parts (must_ok Misplaced (are_placed l.code l.parts) d.0 d.1)) d.2
 
 -- ---- which tests decide where code and data parts lie
 
@@ -180,7 +180,7 @@ unfolding are_placed
 all_placed code parts a b c = ap (λ x. (x && are_apart_from RAM_START (in_order code)) && list_all (is_beside (text_spans code)) parts) a
     ∙ ap (λ x. x && list_all (is_beside (text_spans code)) parts) b ∙ c
 
-pub spans_are : (code : List Segment) → joined (map pages_of (in_order code)) ≡ text_spans code
+pub spans_are : (code : List Segment) → joined (map pages_of_segment (in_order code)) ≡ text_spans code
 unfolding text_spans
 spans_are code = refl
 
@@ -190,7 +190,7 @@ bytes_are code = refl
 
 -- ---- what passed the tests, while it is put together
 
-pub code_law : (code parts : List Segment) → is_text code ≡ true → length code ≤ RANGES_MOST → are_placed code parts ≡ true → IsCode code
+pub code_law : (code parts : List Segment) → is_nonempty_code code ≡ true → length code ≤ RANGES_MOST → are_placed code parts ≡ true → IsCode code
 code_law code parts text few placed =
     let p = placed_law code parts placed in
     record { text = text; few = few; inside = p.inside; page = p.page; apart = p.apart }
@@ -217,7 +217,7 @@ laid_text code sorted ranges c order is = record {
 
 -- what was put together is what the definition says
 pub record Made (l : Layout) (spans : List Span) (k : ElfParts) : Type 0 where
-  pub text : is_text l.code ≡ true
+  pub text : is_nonempty_code l.code ≡ true
   pub few : length l.code ≤ RANGES_MOST
   pub closed : l.writable ≡ false
   pub placed : are_placed l.code l.parts ≡ true

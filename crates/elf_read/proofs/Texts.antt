@@ -10,7 +10,7 @@ use Rattle.fc_numbers.specs.declared.spans.TheConstants.{RANGES_MOST, TEXT_MOST}
 use Rattle.fc_numbers.specs.Spans.{size_of, holds, in_text, text_size, AreRangesFrom}
 use Rattle.guest_input.specs.Text.{Range, span_of, spans_of, bytes_of, AreRanges}
 use Rattle.elf_read.specs.declared.laid.Segment.{Segment}
-use Rattle.elf_read.specs.Kernel.{whole_pages, filled, is_some, is_text, is_in_ram, is_at_page, in_order, pages_of, are_apart_from, join, joined, text_spans, text_bytes, page_bytes}
+use Rattle.elf_read.specs.Kernel.{whole_pages, filled, is_some, is_nonempty_code, is_in_ram, is_at_page, in_order, pages_of_segment, are_apart_from, join, joined, text_spans, text_bytes, page_bytes}
 use Rattle.elf_read.proofs.Passing.{both, eqb_true, eqb_false, leb_true, ltb_true}
 use Rattle.elf_read.proofs.Segments.{in_ram, passes-in_order, length-in_order}
 
@@ -62,7 +62,7 @@ pages_high : (place size : ℕ) → place % PAGE ≡ 0 → place + size ≤ RAM_
 pages_high place size page high = omega arith
 
 pages_follow : (low : ℕ) (ss : List Segment) → list_all is_some ss ≡ true → list_all is_in_ram ss ≡ true → list_all is_at_page ss ≡ true → are_apart_from low ss ≡ true
-    → Follow low (map pages_of ss)
+    → Follow low (map pages_of_segment ss)
 pages_follow low [] some inside page apart = tt
 pages_follow low (s ∷ ss) some inside page apart =
     let a = both (is_some s) (list_all is_some ss) some in
@@ -153,7 +153,7 @@ length-filled size bytes fits =
     let filler = length-replicate (size - length bytes) zero_byte in
     omega (arith, length-append bytes (replicate (size - length bytes) 0), filler, fits)
 
-bytes_size : (ss : List Segment) → list_all is_in_ram ss ≡ true → length (flat_map page_bytes ss) ≡ text_size (map pages_of ss)
+bytes_size : (ss : List Segment) → list_all is_in_ram ss ≡ true → length (flat_map page_bytes ss) ≡ text_size (map pages_of_segment ss)
 bytes_size [] inside = refl
 bytes_size (s ∷ ss) inside =
     let split = both (is_in_ram s) (list_all is_in_ram ss) inside in
@@ -172,49 +172,49 @@ length_map f (x ∷ xs) = ap suc (length_map f xs)
 
 -- code that may be text, if it is not too large
 pub record IsCode (code : List Segment) : Type 0 where
-  pub text : is_text code ≡ true
+  pub text : is_nonempty_code code ≡ true
   pub few : length code ≤ RANGES_MOST
   pub inside : list_all is_in_ram code ≡ true
   pub page : list_all is_at_page code ≡ true
   pub apart : are_apart_from RAM_START (in_order code) ≡ true
 
-code_follows : (code : List Segment) → IsCode code → Follow RAM_START (map pages_of (in_order code))
+code_follows : (code : List Segment) → IsCode code → Follow RAM_START (map pages_of_segment (in_order code))
 code_follows code c =
     let some = both (nat_lt 0 (length code)) (list_all is_some code) c.text in
     pages_follow RAM_START (in_order code) (passes-in_order is_some code some.1) (passes-in_order is_in_ram code c.inside) (passes-in_order is_at_page code c.page) c.apart
 
 pub spans_law : (code : List Segment) → IsCode code → AreRangesFrom RAM_START (text_spans code)
 unfolding text_spans
-spans_law code c = joined_ranges RAM_START (map pages_of (in_order code)) (code_follows code c)
+spans_law code c = joined_ranges RAM_START (map pages_of_segment (in_order code)) (code_follows code c)
 
 pub spans_fit : (code : List Segment) → IsCode code → text_size (text_spans code) < 18446744073709551616
 unfolding text_spans
 spans_fit code c =
     let follow = code_follows code c in
-    let ends = joined_ends RAM_START (map pages_of (in_order code)) follow in
-    omega (arith, size_by_end RAM_START (RAM_START + RAM_MOST) (joined (map pages_of (in_order code))) (joined_ranges RAM_START (map pages_of (in_order code)) follow) ends (omega arith))
+    let ends = joined_ends RAM_START (map pages_of_segment (in_order code)) follow in
+    omega (arith, size_by_end RAM_START (RAM_START + RAM_MOST) (joined (map pages_of_segment (in_order code))) (joined_ranges RAM_START (map pages_of_segment (in_order code)) follow) ends (omega arith))
 
 pub spans_few : (code : List Segment) → IsCode code → length (text_spans code) ≤ RANGES_MOST
 unfolding text_spans
-spans_few code c = omega (arith, joined_few (map pages_of (in_order code)), length_map pages_of (in_order code), length-in_order code, c.few)
+spans_few code c = omega (arith, joined_few (map pages_of_segment (in_order code)), length_map pages_of_segment (in_order code), length-in_order code, c.few)
 
 spans_high : (code : List Segment) (place : ℕ) → IsCode code → in_text (text_spans code) place ≡ true → place < RAM_START + RAM_MOST
 unfolding text_spans
-spans_high code place c h = below_end (RAM_START + RAM_MOST) (joined (map pages_of (in_order code))) place (joined_ends RAM_START (map pages_of (in_order code)) (code_follows code c)) h
+spans_high code place c h = below_end (RAM_START + RAM_MOST) (joined (map pages_of_segment (in_order code))) place (joined_ends RAM_START (map pages_of_segment (in_order code)) (code_follows code c)) h
 
 spans_size : (code : List Segment) → IsCode code → text_size (text_spans code) ≡ length (text_bytes code)
 unfolding text_spans text_bytes
 spans_size code c =
-    joined_size RAM_START (map pages_of (in_order code)) (code_follows code c) ∙ sym (bytes_size (in_order code) (passes-in_order is_in_ram code c.inside))
+    joined_size RAM_START (map pages_of_segment (in_order code)) (code_follows code c) ∙ sym (bytes_size (in_order code) (passes-in_order is_in_ram code c.inside))
 
 spans_some : (code : List Segment) → IsCode code → 0 < text_size (text_spans code)
 unfolding text_spans
 spans_some code c =
     let some = both (nat_lt 0 (length code)) (list_all is_some code) c.text in
     let code_some : 0 < length code = ltb_true 0 (length code) some.0 in
-    let many : 0 < length (map pages_of (in_order code)) = omega (arith, length_map pages_of (in_order code), length-in_order code, code_some) in
+    let many : 0 < length (map pages_of_segment (in_order code)) = omega (arith, length_map pages_of_segment (in_order code), length-in_order code, code_some) in
     let follow = code_follows code c in
-    omega (arith, joined_size RAM_START (map pages_of (in_order code)) follow, some_bytes RAM_START (map pages_of (in_order code)) many follow)
+    omega (arith, joined_size RAM_START (map pages_of_segment (in_order code)) follow, some_bytes RAM_START (map pages_of_segment (in_order code)) many follow)
 
 pub text_law : (code : List Segment) → IsCode code → text_size (text_spans code) ≤ TEXT_MOST → AreRanges (text_spans code) (text_bytes code)
 text_law code c small = record {

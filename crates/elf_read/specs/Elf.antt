@@ -12,7 +12,7 @@ use Rattle.elf_read.specs.declared.parts.ElfFault.{ElfFault}
 use Rattle.elf_read.specs.declared.parts.ElfFault.TheVariants.{NotElf, WrongKind, Truncated}
 use Rattle.elf_read.specs.declared.parts.ElfParts.{ElfParts}
 use Rattle.elf_read.specs.Steps.{◌>>=◌, must}
-use Rattle.elf_read.specs.Fields.{u16_at, header_of, segments_in, sections_in, is_executable, is_writable, is_symbol_table, piece, named_in}
+use Rattle.elf_read.specs.Fields.{u16_at, header_of, segments_in, sections_in, is_executable, is_writable_segment, is_symbol_table, piece, named_in}
 use Rattle.elf_read.specs.Addresses.{place_of_address}
 use Rattle.elf_read.specs.Laid.{Layout}
 use Rattle.elf_read.specs.Kernel.{kernel_of_laid}
@@ -35,17 +35,17 @@ is_kind file = nat_lt (length file) EHDR_SIZE || ((slice_index file 4 == ELFCLAS
     && has_entries (u16_at file 56) (u16_at file 54) PHDR_SIZE && has_entries (u16_at file 60) (u16_at file 58) SHDR_SIZE)
 
 -- a piece of no bytes is inside, whatever its offset
-abbrev pub is_inside : List ℕ → ℕ → ℕ → Bool
-is_inside file offset size = (size == 0) || nat_le (offset + size) (length file)
+abbrev pub is_inside_file : List ℕ → ℕ → ℕ → Bool
+is_inside_file file offset size = (size == 0) || nat_le (offset + size) (length file)
 
 unfoldable pub are_tables : List ℕ → Header → Bool
-are_tables file h = is_inside file h.e_phoff (PHDR_SIZE * h.e_phnum) && is_inside file h.e_shoff (SHDR_SIZE * h.e_shnum)
+are_tables file h = is_inside_file file h.e_phoff (PHDR_SIZE * h.e_phnum) && is_inside_file file h.e_shoff (SHDR_SIZE * h.e_shnum)
 
 abbrev pub is_loaded : List ℕ → ProgramHeader → Bool
-is_loaded file p = is_inside file p.p_offset p.p_filesz
+is_loaded file p = is_inside_file file p.p_offset p.p_filesz
 
 abbrev pub is_section_inside : List ℕ → SectionHeader → Bool
-is_section_inside file s = is_inside file s.sh_offset s.sh_size
+is_section_inside file s = is_inside_file file s.sh_offset s.sh_size
 
 abbrev pub has_strings : List ℕ → Option SectionHeader → Bool
 has_strings file None = not true
@@ -83,7 +83,7 @@ abbrev pub layout_of : List ℕ → Header → List ProgramHeader → List Named
 layout_of file h segments named = record {
   code = map (segment_of file) (code_of segments);
   parts = map (segment_of file) (data_of segments);
-  writable = list_any is_writable (code_of segments);
+  writable = list_any is_writable_segment (code_of segments);
   named = named;
   entry = place_of_address (code_of segments) h.e_entry;
 }

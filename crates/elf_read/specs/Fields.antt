@@ -76,8 +76,8 @@ has_flag flags flag = not (bit_and flags flag == 0)
 abbrev pub is_executable : ProgramHeader → Bool
 is_executable p = has_flag p.p_flags PF_X
 
-abbrev pub is_writable : ProgramHeader → Bool
-is_writable p = has_flag p.p_flags PF_W
+abbrev pub is_writable_segment : ProgramHeader → Bool
+is_writable_segment p = has_flag p.p_flags PF_W
 
 -- a table of symbols that is not compressed
 abbrev pub is_symbol_table : SectionHeader → Bool
@@ -98,8 +98,8 @@ symbol_at file table n = symbol file (table.sh_offset + SYM_SIZE * n)
 abbrev pub symbols_in : List ℕ → SectionHeader → List Symbol
 symbols_in file table = map (symbol_at file table) (range_with_len 0 (table.sh_size / SYM_SIZE))
 
-abbrev pub is_function : Symbol → Bool
-is_function s = s.st_info % 16 == STT_FUNC
+abbrev pub is_function_symbol : Symbol → Bool
+is_function_symbol s = s.st_info % 16 == STT_FUNC
 
 -- at a place, where there is one, with a kept name
 abbrev pub named_at : Option ℕ → List ℕ → List NamedPlace
@@ -108,7 +108,7 @@ named_at (Some place) name = record { place = place; name = kept_name name } ∷
 
 -- the named place of a symbol: that of a function whose address has a place
 abbrev pub named_of : List ProgramHeader → List ℕ → Symbol → List NamedPlace
-named_of code strings s = cond (is_function s) (named_at (place_of_address code s.st_value) (string_at strings s.st_name)) []
+named_of code strings s = cond (is_function_symbol s) (named_at (place_of_address code s.st_value) (string_at strings s.st_name)) []
 
 -- the named places of a table of symbols
 abbrev pub named_in : List ℕ → List ProgramHeader → SectionHeader → List ℕ → List NamedPlace

@@ -33,8 +33,8 @@ abbrev pub is_some : Segment → Bool
 is_some s = nat_lt 0 s.size
 
 -- there is code, and none of it is empty
-abbrev pub is_text : List Segment → Bool
-is_text code = nat_lt 0 (length code) && list_all is_some code
+abbrev pub is_nonempty_code : List Segment → Bool
+is_nonempty_code code = nat_lt 0 (length code) && list_all is_some code
 
 -- in the machine's largest RAM, with no more bytes than it has there
 abbrev pub is_in_ram : Segment → Bool
@@ -52,8 +52,8 @@ put_in_order (t ∷ ts) s = if nat_lt s.place t.place then s ∷ t ∷ ts else t
 abbrev pub in_order : List Segment → List Segment
 in_order code = fold put_in_order [] code
 
-abbrev pub pages_of : Segment → Span
-pages_of s = record { start = s.place; end = s.place + whole_pages s.size }
+abbrev pub pages_of_segment : Segment → Span
+pages_of_segment s = record { start = s.place; end = s.place + whole_pages s.size }
 
 -- each begins at or behind a place, and behind the pages of the one before
 abbrev pub are_apart_from : ℕ → List Segment → Bool
@@ -73,7 +73,7 @@ joined (s ∷ ss) = join s (joined ss)
 
 -- the ranges of text
 unfoldable pub text_spans : List Segment → List Span
-text_spans code = joined (map pages_of (in_order code))
+text_spans code = joined (map pages_of_segment (in_order code))
 
 -- the bytes of a segment's pages
 abbrev pub page_bytes : Segment → List ℕ
@@ -135,7 +135,7 @@ kernel_in l spans = do
 -- the kernel that is laid out, or its first fault
 unfoldable pub kernel_of_laid : Layout → Result ElfParts ElfFault
 kernel_of_laid l = do
-  some ← must NoText (is_text l.code)
+  some ← must NoText (is_nonempty_code l.code)
   few ← must TooManyTexts (nat_le (length l.code) RANGES_MOST)
   closed ← must WritableText (not l.writable)
   placed ← must Misplaced (are_placed l.code l.parts)

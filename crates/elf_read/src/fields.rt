@@ -185,7 +185,7 @@ pub fn read_symbol(file: &[u8], at: u64) -> Symbol
 }
 
 impl ProgramHeader {
-    ghost use Rattle.elf_read.specs.Fields.{is_segment, is_executable, is_writable};
+    ghost use Rattle.elf_read.specs.Fields.{is_segment, is_executable, is_writable_segment};
 
     /// Whether the segment is loaded and takes memory.
     pub fn is_segment(&self) -> bool
@@ -203,7 +203,7 @@ impl ProgramHeader {
 
     /// Whether the segment may be written.
     pub fn is_writable(&self) -> bool
-        ensures { result ≡ is_writable self.now }
+        ensures { result ≡ is_writable_segment self.now }
     {
         self.p_flags & PF_W != 0
     }
@@ -221,11 +221,11 @@ impl SectionHeader {
 }
 
 impl Symbol {
-    ghost use Rattle.elf_read.specs.Fields.{is_function};
+    ghost use Rattle.elf_read.specs.Fields.{is_function_symbol};
 
     /// Whether the symbol is a function's.
     pub fn is_function(&self) -> bool
-        ensures { result ≡ is_function self.now }
+        ensures { result ≡ is_function_symbol self.now }
     {
         self.st_info % 16 == STT_FUNC
     }

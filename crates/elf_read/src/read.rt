@@ -3,7 +3,7 @@
 ghost use Rattle.std.specs.Prelude.{◌≡◌, ◌≢◌, ℕ, List, true, map, IfOk, IfErr, Ok, Err};
 ghost use Rattle.std.specs.List.{list_all, list_any};
 ghost use Rattle.guest_input.specs.Accepted.{IsImage};
-ghost use Rattle.elf_read.specs.Fields.{is_writable, segments_in, sections_in};
+ghost use Rattle.elf_read.specs.Fields.{is_writable_segment, segments_in, sections_in};
 ghost use Rattle.elf_read.specs.Elf.{has_mark, has_entries, is_kind, are_tables, is_loaded, code_of, data_of, segment_of, layout_of, are_symbols, symbol_table, named_by, laid_by, elf_of};
 ghost use Rattle.elf_read.specs.Kernel.{image_with};
 
@@ -121,7 +121,7 @@ fn loaded(alloc: Global, file: &[u8], headers: &[ProgramHeader]) -> Result<Vec<S
 }
 
 fn are_writable(code: &[ProgramHeader]) -> bool
-    ensures { result ≡ list_any is_writable code.now }
+    ensures { result ≡ list_any is_writable_segment code.now }
 {
     code.iter().any(|segment| segment.is_writable())
 }

@@ -3,10 +3,10 @@
 ghost use Rattle.std.specs.Prelude.{◌≡◌, ◌≢◌, ◌≤◌, ◌<◌, ◌*◌, ◌+◌, ◌++◌, ◌∷◌, [], ℕ, true, ◌==◌, cond, length, take, drop, map, IfOk, IfSome, OnOk, option_copied, option_map, Some, None};
 ghost use Rattle.std.specs.List.{filter, find, slice_get, before_first, position};
 ghost use Rattle.elf_read.specs.Starts.{kept_name};
-ghost use Rattle.elf_read.specs.Fields.{segment_at, segments_in, section_at, sections_in, is_segment, is_function, piece, string_at, named_at, named_of, named_in};
+ghost use Rattle.elf_read.specs.Fields.{segment_at, segments_in, section_at, sections_in, is_segment, is_function_symbol, piece, string_at, named_at, named_of, named_in};
 ghost use Rattle.elf_read.specs.Addresses.{is_within, has_address, place_of_address};
 ghost use Rattle.elf_read.specs.declared.fields.TheConstants.{PHDR_SIZE, SHDR_SIZE};
-ghost use Rattle.elf_read.specs.Elf.{is_inside, has_strings, are_symbols, symbol_table, strings_of, named_by};
+ghost use Rattle.elf_read.specs.Elf.{is_inside_file, has_strings, are_symbols, symbol_table, strings_of, named_by};
 
 use crate::fields::{
     Header, PHDR_SIZE, ProgramHeader, SHDR_SIZE, SYM_SIZE, SectionHeader, Symbol,
@@ -22,7 +22,7 @@ use std::alloc::Global;
 
 /// Whether a piece of the file is inside it. A piece of no bytes is, whatever its offset.
 pub fn is_inside(file: &[u8], offset: u64, size: u64) -> bool
-    ensures { result ≡ is_inside file.now offset size }
+    ensures { result ≡ is_inside_file file.now offset size }
 {
     let length = file.len() as u64;
     size == 0 || (offset <= length && size <= length - offset)
@@ -43,7 +43,7 @@ pub fn segments(
     file: &[u8],
     header: &Header,
 ) -> Result<Items<ProgramHeader>, NoMemory>
-    requires { is_inside file.now header.now.e_phoff (PHDR_SIZE * header.now.e_phnum) ≡ true }
+    requires { is_inside_file file.now header.now.e_phoff (PHDR_SIZE * header.now.e_phnum) ≡ true }
     ensures { IfOk result (λ segments. segments ≡ segments_in file.now header.now) }
 {
     let mut segments = Items::new(alloc);
@@ -60,7 +60,7 @@ pub fn sections(
     file: &[u8],
     header: &Header,
 ) -> Result<Items<SectionHeader>, NoMemory>
-    requires { is_inside file.now header.now.e_shoff (SHDR_SIZE * header.now.e_shnum) ≡ true }
+    requires { is_inside_file file.now header.now.e_shoff (SHDR_SIZE * header.now.e_shnum) ≡ true }
     ensures { IfOk result (λ sections. sections ≡ sections_in file.now header.now) }
 {
     let mut sections = Items::new(alloc);
@@ -105,7 +105,7 @@ pub fn are_symbols(file: &[u8], sections: &[SectionHeader], table: Option<Sectio
 
 /// The bytes of a piece of the file.
 pub fn piece(file: &[u8], offset: u64, size: u64) -> &[u8]
-    requires { is_inside file.now offset size ≡ true }
+    requires { is_inside_file file.now offset size ≡ true }
     ensures { result.now ≡ piece file.now offset size }
 {
     if size == 0 {
@@ -217,7 +217,7 @@ fn named_in(
     table: &SectionHeader,
     strings: &[u8],
 ) -> Result<Items<NamedPlace>, NoMemory>
-    requires { is_inside file.now table.now.sh_offset table.now.sh_size ≡ true }
+    requires { is_inside_file file.now table.now.sh_offset table.now.sh_size ≡ true }
     ensures { IfOk result (λ named. named ≡ named_in file.now code.now table.now strings.now) }
 {
     let mut named = Items::new(alloc);

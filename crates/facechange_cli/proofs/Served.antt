@@ -1,6 +1,6 @@
 -- The frame's laws, at every command.
 use Rattle.std.proofs.Common.{◌≡◌, ℕ, Some, List, ◌⊎◌, inl, inr, refl, false}
-use Rattle.command_frame.specs.Promise.{Told, MakesNot}
+use Rattle.command_frame.specs.Promise.{FileContents, MakesNot}
 use Rattle.command_frame.specs.declared.fault.Fault.{Fault}
 use Rattle.command_frame.specs.Exact.{AreSure}
 use Rattle.command_frame.proofs.Exact.{accepted-files, refused-files}
@@ -12,7 +12,7 @@ use Rattle.facechange_cli.specs.declared.words.Command.{Command}
 use Rattle.facechange_cli.specs.declared.words.Command.TheVariants.{Try, Drive, Profile, Merge, Show, Replay, List as Listing, Surface, Bench}
 
 -- only a command that may have no product fails with its files accepted
-fails-where : (words : List (List ℕ)) (at : Told) (why : Fault) (command : Command) → MakesNot words at why (request_of words command).promise → makes_always command ≡ false
+fails-where : (words : List (List ℕ)) (at : FileContents) (why : Fault) (command : Command) → MakesNot words at why (request_of words command).promise → makes_always command ≡ false
 fails-where words at why (Try setup) k = absurd k.2.2
 fails-where words at why Drive k = absurd k.2.2.2.2
 fails-where words at why Profile k = refl

@@ -13,7 +13,7 @@ use Rattle.listing_commands.specs.Requests.{list_inputs, list_outputs, list_prom
 use Rattle.replay_command.specs.Replay.{replay_inputs, replay_outputs, replay_promise}
 use Rattle.view_commands.specs.Requests.{profile_inputs, profile_outputs, profile_promise, merge_inputs, merge_outputs, merge_promise, show_inputs, show_outputs, show_promise}
 use Rattle.facechange_cli.specs.declared.words.Command.TheVariants.{Try, Drive, Profile, Merge, Show, Replay, List as Listing, Surface, Bench}
-use Rattle.trace_file.specs.Trace.{Told, text_of}
+use Rattle.trace_file.specs.Trace.{Told, text_of_trace}
 use Rattle.guest_runs.specs.Alone.{IsRunOf}
 use Rattle.guest_runs.specs.Driven.{IsDriven}
 use Rattle.guest_runs.specs.Log.{log_text}
@@ -34,7 +34,7 @@ pub record IsDrive (c : Config) (script : List ℕ) (p : Product) : Type 0 where
   pub lawful : IsConfig c
   pub trace : Told
   pub driven : IsDriven c script trace p.out
-  pub files : p.files ≡ file_of 5 (text_of trace) ∷ file_of 6 (log_text c.image c.views trace.entries) ∷ []
+  pub files : p.files ≡ file_of 5 (text_of_trace trace) ∷ file_of 6 (log_text c.image c.views trace.entries) ∷ []
   pub ended : p.ended ≡ ended_of trace.end
 
 -- the places of the input files and of the output files in the words

@@ -1,7 +1,7 @@
 -- Each cause has its answer, for every command.
 use Rattle.std.specs.Prelude.{◌≡◌, ℕ, ◌⊎◌, Bool, true, false, Some, List}
 use Rattle.command_frame.specs.Finished.{Outside}
-use Rattle.command_frame.specs.Promise.{Told, Accepts}
+use Rattle.command_frame.specs.Promise.{FileContents, Accepts}
 use Rattle.command_frame.specs.Command.{IsAnswer}
 use Rattle.command_frame.specs.Exact.{IsFaultFree, IsMade, IsNotMade, RefusedFilesAnswer}
 use Rattle.command_frame.specs.declared.answer.Answer.{Answer}
@@ -26,7 +26,7 @@ makes_always (Bench seed) = false
 
 -- where all input files are accepted, the command is served; one that may have no product may be refused for that
 abbrev pub AcceptedFilesAreServed : Type 0
-AcceptedFilesAreServed = (words : List (List ℕ)) (command : Command) (before after : Outside) (answer : Answer) (at : Told) → before.files ≡ Some at
+AcceptedFilesAreServed = (words : List (List ℕ)) (command : Command) (before after : Outside) (answer : Answer) (at : FileContents) → before.files ≡ Some at
     → IsAnswer (request_of words command) before after answer → IsFaultFree before after → Accepts words at (request_of words command).promise
     → (answer ≡ NoMemory) ⊎ (IsMade (request_of words command) at before after answer
     ⊎ ((makes_always command ≡ false) × IsNotMade (request_of words command) at answer))
@@ -37,7 +37,7 @@ RefusedFilesAreAnswered = (words : List (List ℕ)) (command : Command) → Refu
 
 -- the same of `run`, where it returns
 abbrev pub AcceptedFilesAreRun : Type 0
-AcceptedFilesAreRun = (words : List (List ℕ)) (before after : Outside) (answer : Answer) (at : Told) → before.files ≡ Some at
+AcceptedFilesAreRun = (words : List (List ℕ)) (before after : Outside) (answer : Answer) (at : FileContents) → before.files ≡ Some at
     → IsAnswer (run_request words) before after answer → IsFaultFree before after → Accepts words at (run_request words).promise
     → (answer ≡ NoMemory) ⊎ IsMade (run_request words) at before after answer
 

@@ -1,13 +1,13 @@
 //! The top call of the program.
 
 ghost use Rattle.std.specs.Prelude.{◌≡◌, ℕ, List, Option, Some, map, string_bytes};
-ghost use Rattle.command_frame.specs.Promise.{Told};
+ghost use Rattle.command_frame.specs.Promise.{FileContents};
 ghost use Rattle.command_frame.specs.Command.{MakeSaid, MakeCounts, HasOutputs};
 ghost use Rattle.command_frame.specs.Finished.{outside_of};
 ghost use Rattle.command_frame.specs.Lines.{IsTold};
 ghost use Rattle.facechange_cli.specs.Words.{IsForm};
 ghost use Rattle.facechange_cli.specs.Requests.{request_of};
-ghost use Rattle.facechange_cli.specs.Top.{Answers};
+ghost use Rattle.facechange_cli.specs.Top.{AreAnswered};
 
 use crate::drive::make_drive;
 use crate::trial::make_trial;
@@ -33,7 +33,7 @@ fn make<S: Store>(
     store: &mut S,
 ) -> Result<Product, Refusal>
     requires { IsForm (map string_bytes words.now) command.now }
-    ensures said { (told : Told) → S.files store.old ≡ Some told → MakeSaid (request_of (map string_bytes words.now) command.now) told result }
+    ensures said { (told : FileContents) → S.files store.old ≡ Some told → MakeSaid (request_of (map string_bytes words.now) command.now) told result }
     ensures counted { MakeCounts (request_of (map string_bytes words.now) command.now) (S.reads store.old) (S.reads store.new) result }
     ensures outputs { HasOutputs (request_of (map string_bytes words.now) command.now) result }
     ensures files { S.files store.new ≡ S.files store.old }
@@ -73,7 +73,7 @@ pub fn face_change_still<S: Store, K: Sink, E: Sink>(
 ) -> u8
     ensures { let before = outside_of (S.files store.old) (S.reads store.old) (S.writes store.old) (K.written out.old) (K.faults out.old) in
         let after = outside_of (S.files store.new) (S.reads store.new) (S.writes store.new) (K.written out.new) (K.faults out.new) in
-        Answers (map string_bytes words.now) before after (IsTold (E.faults err.old) (E.faults err.new) (E.written err.old) (E.written err.new)) result }
+        AreAnswered (map string_bytes words.now) before after (IsTold (E.faults err.old) (E.faults err.new) (E.written err.old) (E.written err.new)) result }
 {
     let Some(command) = command_of(alloc, words) else {
         return turn_away(err);

@@ -1,7 +1,7 @@
 //! What `drive` makes: the trace of a run of several vCPUs, the log of what their views missed, and the console.
 
 ghost use Rattle.std.specs.Prelude.{◌≡◌, ℕ, List, Option, Some, map, string_bytes};
-ghost use Rattle.command_frame.specs.Promise.{Told};
+ghost use Rattle.command_frame.specs.Promise.{FileContents};
 ghost use Rattle.command_frame.specs.Command.{MakeSaid, MakeCounts, HasOutputs};
 ghost use Rattle.facechange_cli.specs.Requests.{drive_request};
 
@@ -37,7 +37,7 @@ pub(crate) fn make_drive<S: Store>(
     words: &[String],
     store: &mut S,
 ) -> Result<Product, Refusal>
-    ensures said { (told : Told) → S.files store.old ≡ Some told → MakeSaid (drive_request (map string_bytes words.now)) told result }
+    ensures said { (told : FileContents) → S.files store.old ≡ Some told → MakeSaid (drive_request (map string_bytes words.now)) told result }
     ensures counted { MakeCounts (drive_request (map string_bytes words.now)) (S.reads store.old) (S.reads store.new) result }
     ensures outputs { HasOutputs (drive_request (map string_bytes words.now)) result }
     ensures files { S.files store.new ≡ S.files store.old }

@@ -1,7 +1,7 @@
 //! What `try` makes: the console of the full kernel's run, and the log of what its view missed.
 
 ghost use Rattle.std.specs.Prelude.{◌≡◌, ℕ, List, Option, Some, map, string_bytes};
-ghost use Rattle.command_frame.specs.Promise.{Told};
+ghost use Rattle.command_frame.specs.Promise.{FileContents};
 ghost use Rattle.command_frame.specs.Command.{MakeSaid, MakeCounts, HasOutputs};
 ghost use Rattle.facechange_cli.specs.Setups.{IsAlone};
 ghost use Rattle.facechange_cli.specs.Requests.{try_request};
@@ -31,7 +31,7 @@ pub(crate) fn make_trial<S: Store>(
     store: &mut S,
 ) -> Result<Product, Refusal>
     requires { IsAlone setup.now }
-    ensures said { (told : Told) → S.files store.old ≡ Some told → MakeSaid (try_request (map string_bytes words.now) setup.now) told result }
+    ensures said { (told : FileContents) → S.files store.old ≡ Some told → MakeSaid (try_request (map string_bytes words.now) setup.now) told result }
     ensures counted { MakeCounts (try_request (map string_bytes words.now) setup.now) (S.reads store.old) (S.reads store.new) result }
     ensures outputs { HasOutputs (try_request (map string_bytes words.now) setup.now) result }
     ensures files { S.files store.new ≡ S.files store.old }

@@ -8,7 +8,7 @@ use Rattle.std.specs.Prelude.{option_and_then, is_some, not, ◌&&◌}
 use Rattle.std.proofs.lemmas.Slice.Eq.{bytes_eq-Decides}
 use Rattle.std.proofs.Math.Path.{fun_ext}
 use Rattle.fc_outside.specs.Outside.{holding}
-use Rattle.fc_outside.specs.Memory.{File, held_at, has_room, named, with_file, filled, written_files, IsPlace, IsMissing}
+use Rattle.fc_outside.specs.Memory.{File, held_at, has_room, file_named, with_file, file_with_bytes, written_files, IsPlace, IsMissing}
 
 -- the index of the first file of this name, counted from k
 abbrev pub place_from : List ℕ → ℕ → List File → Option ℕ
@@ -39,7 +39,7 @@ at_inside q [] n h = absurd h
 at_inside q (f ∷ fs) zero h = omega arith
 at_inside q (f ∷ fs) (suc n) h = omega (arith, at_inside q fs n h.1)
 
-at_file : (q : List ℕ) (fs : List File) (n : ℕ) (d : File) → IsAt q fs n → named fs q ≡ Some (slice_index_or fs n d)
+at_file : (q : List ℕ) (fs : List File) (n : ℕ) (d : File) → IsAt q fs n → file_named fs q ≡ Some (slice_index_or fs n d)
 at_file q [] n d h = absurd h
 at_file q (f ∷ fs) zero d h = rw h refl
 at_file q (f ∷ fs) (suc n) d h = rw h.0 (at_file q fs n d h.1)
@@ -49,7 +49,7 @@ at_put [] n f h = absurd h
 at_put (g ∷ gs) zero f h = rw h refl
 at_put (g ∷ gs) (suc n) f h = rw h.0 (ap (λ fs. g ∷ fs) (at_put gs n f h.1))
 
-at_written : (q : List ℕ) (fs : List File) (n : ℕ) (d : File) (bytes : List ℕ) → IsAt q fs n → slice_set fs n (filled (slice_index_or fs n d) bytes) ≡ written_files fs q bytes
+at_written : (q : List ℕ) (fs : List File) (n : ℕ) (d : File) (bytes : List ℕ) → IsAt q fs n → slice_set fs n (file_with_bytes (slice_index_or fs n d) bytes) ≡ written_files fs q bytes
 at_written q [] n d bytes h = absurd h
 at_written q (f ∷ fs) zero d bytes h = rw h refl
 at_written q (f ∷ fs) (suc n) d bytes h = rw h.0 (ap (λ gs. f ∷ gs) (at_written q fs n d bytes h.1))
@@ -62,7 +62,7 @@ nowhere q (g ∷ gs) k e =
       | false ↦ λ h e. (h, nowhere q gs (k + 1) e)
     ] refl e
 
-nowhere_named : (q : List ℕ) (fs : List File) → IsNowhere q fs → named fs q ≡ None
+nowhere_named : (q : List ℕ) (fs : List File) → IsNowhere q fs → file_named fs q ≡ None
 nowhere_named q [] h = refl
 nowhere_named q (g ∷ gs) h = rw h.0 (nowhere_named q gs h.1)
 
@@ -108,19 +108,19 @@ apart q name other e h =
       | false ↦ λ same. refl
     ] refl
 
-held_here : (g : File) (gs : List File) (name bytes q : List ℕ) → bytes_eq name g.name ≡ true → held_at (filled g bytes ∷ gs) q ≡ (if bytes_eq q name then Some bytes else held_at (g ∷ gs) q)
+held_here : (g : File) (gs : List File) (name bytes q : List ℕ) → bytes_eq name g.name ≡ true → held_at (file_with_bytes g bytes ∷ gs) q ≡ (if bytes_eq q name then Some bytes else held_at (g ∷ gs) q)
 held_here g gs name bytes q h =
     let same : name ≡ g.name = (bytes_eq-Decides name g.name).0 h in
-    rw same (elim (bytes_eq q g.name) as (λ b. option_and_then (λ (f : File). f.held) (if b then Some (filled g bytes) else named gs q) ≡ (if b then Some bytes else option_and_then (λ (f : File). f.held) (if b then Some g else named gs q))) [ true ↦ refl | false ↦ refl ])
+    rw same (elim (bytes_eq q g.name) as (λ b. option_and_then (λ (f : File). f.held) (if b then Some (file_with_bytes g bytes) else file_named gs q) ≡ (if b then Some bytes else option_and_then (λ (f : File). f.held) (if b then Some g else file_named gs q))) [ true ↦ refl | false ↦ refl ])
 
 -- what each name holds after a write to a name that there is
-pub held_written : (fs : List File) (name bytes q : List ℕ) → is_some (named fs name) ≡ true → held_at (written_files fs name bytes) q ≡ (if bytes_eq q name then Some bytes else held_at fs q)
+pub held_written : (fs : List File) (name bytes q : List ℕ) → is_some (file_named fs name) ≡ true → held_at (written_files fs name bytes) q ≡ (if bytes_eq q name then Some bytes else held_at fs q)
 held_written [] name bytes q some = absurd (cc)
 held_written (g ∷ gs) name bytes q some =
-    elim (bytes_eq name g.name) as (λ b. bytes_eq name g.name ≡ b → is_some (if b then Some g else named gs name) ≡ true → held_at (if b then filled g bytes ∷ gs else g ∷ written_files gs name bytes) q ≡ (if bytes_eq q name then Some bytes else held_at (g ∷ gs) q)) [
+    elim (bytes_eq name g.name) as (λ b. bytes_eq name g.name ≡ b → is_some (if b then Some g else file_named gs name) ≡ true → held_at (if b then file_with_bytes g bytes ∷ gs else g ∷ written_files gs name bytes) q ≡ (if bytes_eq q name then Some bytes else held_at (g ∷ gs) q)) [
       | true ↦ λ h some. held_here g gs name bytes q h
       | false ↦ λ h some.
-          elim (bytes_eq q g.name) as (λ b. bytes_eq q g.name ≡ b → option_and_then (λ (f : File). f.held) (if b then Some g else named (written_files gs name bytes) q) ≡ (if bytes_eq q name then Some bytes else option_and_then (λ (f : File). f.held) (if b then Some g else named gs q))) [
+          elim (bytes_eq q g.name) as (λ b. bytes_eq q g.name ≡ b → option_and_then (λ (f : File). f.held) (if b then Some g else file_named (written_files gs name bytes) q) ≡ (if bytes_eq q name then Some bytes else option_and_then (λ (f : File). f.held) (if b then Some g else file_named gs q))) [
             | true ↦ λ e. rw (apart q name g.name e h) refl
             | false ↦ λ e. held_written gs name bytes q some
           ] refl
@@ -135,11 +135,11 @@ both_true true b h = absurd (cc)
 both_true false b h = h
 
 -- the files that a write with room leaves
-pub holds_written : (fs : List File) (name bytes : List ℕ) (size : ℕ) → has_room (named fs name) size ≡ true → Some (held_at (written_files fs name bytes)) ≡ holding name bytes (Some (held_at fs))
-holds_written fs name bytes size h = ap Some (fun_ext (λ q. held_written fs name bytes q (room_some (named fs name) size h)))
+pub holds_written : (fs : List File) (name bytes : List ℕ) (size : ℕ) → has_room (file_named fs name) size ≡ true → Some (held_at (written_files fs name bytes)) ≡ holding name bytes (Some (held_at fs))
+holds_written fs name bytes size h = ap Some (fun_ext (λ q. held_written fs name bytes q (room_some (file_named fs name) size h)))
 
 -- the same, as the write tells of it
-pub holds_after : (fs gs : List File) (name bytes : List ℕ) (listed done : Bool) → done ≡ true → done ≡ (not listed && has_room (named fs name) (length bytes)) → gs ≡ (if done then written_files fs name bytes else fs) → Some (held_at gs) ≡ holding name bytes (Some (held_at fs))
+pub holds_after : (fs gs : List File) (name bytes : List ℕ) (listed done : Bool) → done ≡ true → done ≡ (not listed && has_room (file_named fs name) (length bytes)) → gs ≡ (if done then written_files fs name bytes else fs) → Some (held_at gs) ≡ holding name bytes (Some (held_at fs))
 holds_after fs gs name bytes listed done is told left =
-    let room : has_room (named fs name) (length bytes) ≡ true = both_true listed (has_room (named fs name) (length bytes)) (sym told ∙ is) in
+    let room : has_room (file_named fs name) (length bytes) ≡ true = both_true listed (has_room (file_named fs name) (length bytes)) (sym told ∙ is) in
     ap (λ (hs : List File). Some (held_at hs)) (left ∙ ap (λ b. if b then written_files fs name bytes else fs) is) ∙ holds_written fs name bytes (length bytes) room

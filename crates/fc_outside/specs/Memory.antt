@@ -32,13 +32,13 @@ pub record Memory : Type 0 where
   pub writes : Calls
 
 -- the first file of this name
-abbrev pub named : List File → List ℕ → Option File
-named [] q = None
-named (f ∷ fs) q = if bytes_eq q f.name then Some f else named fs q
+abbrev pub file_named : List File → List ℕ → Option File
+file_named [] q = None
+file_named (f ∷ fs) q = if bytes_eq q f.name then Some f else file_named fs q
 
 -- what a name holds
 abbrev pub held_at : List File → List ℕ → Option (List ℕ)
-held_at files q = option_and_then (λ f. f.held) (named files q)
+held_at files q = option_and_then (λ f. f.held) (file_named files q)
 
 -- the files, with this one in the place of the first of its name, or at the end where there is none
 abbrev pub with_file : List File → File → List File
@@ -61,8 +61,8 @@ has_failed (Err TooLong) = false
 has_failed (Err NoMemory) = false
 
 -- the calls after one more, which failed at this name or did not fail
-abbrev pub called : Calls → List ℕ → Bool → Calls
-called calls name failed = record {
+abbrev pub calls_after : Calls → List ℕ → Bool → Calls
+calls_after calls name failed = record {
   failing = calls.failing;
   made = one_more calls.made;
   faults = if failed then risen calls.faults name else calls.faults;
@@ -79,27 +79,27 @@ has_room (Some f) size = nat_le size f.room
 
 -- a write fails where it is listed, the name was never given room, or the bytes are more than its room
 abbrev pub write_fails : Memory → List ℕ → ℕ → Bool
-write_fails m name size = is_listed m.writes || not (has_room (named m.files name) size)
+write_fails m name size = is_listed m.writes || not (has_room (file_named m.files name) size)
 
 -- the store after a read
 abbrev pub after_read : Memory → List ℕ → Memory
-after_read m name = record m { reads = called m.reads name (read_fails m name) }
+after_read m name = record m { reads = calls_after m.reads name (read_fails m name) }
 
 -- the file with other bytes
-abbrev pub filled : File → List ℕ → File
-filled f bytes = record { name = f.name; held = Some bytes; room = f.room }
+abbrev pub file_with_bytes : File → List ℕ → File
+file_with_bytes f bytes = record { name = f.name; held = Some bytes; room = f.room }
 
 -- the files after these bytes are written to a name that has room
 abbrev pub written_files : List File → List ℕ → List ℕ → List File
 written_files [] name bytes = []
-written_files (f ∷ fs) name bytes = if bytes_eq name f.name then filled f bytes ∷ fs else f ∷ written_files fs name bytes
+written_files (f ∷ fs) name bytes = if bytes_eq name f.name then file_with_bytes f bytes ∷ fs else f ∷ written_files fs name bytes
 
 -- the store after a write
 abbrev pub after_write : Memory → List ℕ → List ℕ → Memory
 after_write m name bytes = record {
   files = if write_fails m name (length bytes) then m.files else written_files m.files name bytes;
   reads = m.reads;
-  writes = called m.writes name (write_fails m name (length bytes));
+  writes = calls_after m.writes name (write_fails m name (length bytes));
 }
 
 -- a sink in memory: its bytes, its room, the puts that are to fail with how many bytes each takes, how many were made, the count of faults
@@ -141,13 +141,13 @@ put_in s piece = record {
 -- the file at this index is the first of the name: it is the named one, and a write or another file of the name takes its place
 pub record IsPlace (files : List File) (name : List ℕ) (i : ℕ) : Type 0 where
   pub inside : i < length files
-  pub file : (d : File) → named files name ≡ Some (slice_index_or files i d)
+  pub file : (d : File) → file_named files name ≡ Some (slice_index_or files i d)
   pub put : (f : File) → f.name ≡ name → slice_set files i f ≡ with_file files f
-  pub written : (d : File) (bytes : List ℕ) → slice_set files i (filled (slice_index_or files i d) bytes) ≡ written_files files name bytes
+  pub written : (d : File) (bytes : List ℕ) → slice_set files i (file_with_bytes (slice_index_or files i d) bytes) ≡ written_files files name bytes
 
 -- no file has the name: another file of the name goes to the end
 pub record IsMissing (files : List File) (name : List ℕ) : Type 0 where
-  pub none : named files name ≡ None
+  pub none : file_named files name ≡ None
   pub put : (f : File) → f.name ≡ name → files ++ f ∷ [] ≡ with_file files f
 
 -- a sink's bytes are within its room, and its room within what it has

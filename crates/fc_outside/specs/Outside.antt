@@ -24,8 +24,8 @@ abbrev pub SameBut : List ℕ → Files → Files → Type 0
 SameBut name before after = (q : List ℕ) → q ≢ name → file_at q after ≡ file_at q before
 
 -- a name as it is kept of a fault: its first 4,096 bytes
-abbrev pub kept_name : List ℕ → List ℕ
-kept_name name = take 4096 name
+abbrev pub kept_fault_name : List ℕ → List ℕ
+kept_fault_name name = take 4096 name
 
 -- how many faults there were, and the name at the last one
 pub record Faults : Type 0 where
@@ -38,7 +38,7 @@ one_more n = min (n + 1) (2 ^ 64 - 1)
 
 -- one more fault, of this name
 abbrev pub risen : Faults → List ℕ → Faults
-risen faults name = record { count = one_more faults.count; last = kept_name name }
+risen faults name = record { count = one_more faults.count; last = kept_fault_name name }
 
 -- a count has risen where it is greater than before, or is the greatest, where it stays
 abbrev pub Rose : ℕ → ℕ → Type 0
@@ -49,7 +49,7 @@ pub record IsFaultOf (name : List ℕ) (before after : Faults) : Type 0 where
   pub later : before.count ≤ after.count
   pub once : after.count ≤ before.count + 1
   pub rose : Rose before.count after.count
-  pub last : after.last ≡ kept_name name
+  pub last : after.last ≡ kept_fault_name name
 
 -- what a read answers of what the name holds, where the store tells it
 abbrev pub ReadGives : Option (List ℕ) → ℕ → Result (Vec ℕ Global) ReadNo → Type 0

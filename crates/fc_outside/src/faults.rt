@@ -1,7 +1,7 @@
 //! A count of faults, with the name at the last one.
 
 ghost use Rattle.std.specs.Prelude.{◌≡◌, ◌≤◌, ◌<◌, ◌^◌, []};
-ghost use Rattle.fc_outside.specs.Outside.{Faults, IsFaultOf, kept_name, risen};
+ghost use Rattle.fc_outside.specs.Outside.{Faults, IsFaultOf, kept_fault_name, risen};
 
 use arrayvec::ArrayVec;
 use std::marker::Model;
@@ -67,7 +67,7 @@ impl FaultCount {
 /// The first bytes of a name, at most as many as are kept.
 #[tactic(auto, using(std::proofs::lemmas::List::take_min))]
 fn first_bytes(name: &[u8]) -> ArrayVec<u8, 4096>
-    ensures { result.items ≡ kept_name name.now }
+    ensures { result.items ≡ kept_fault_name name.now }
 {
     let size = NAME_KEPT.min(name.len());
     let mut first = ArrayVec::new();

@@ -5,8 +5,8 @@ ghost use Rattle.std.specs.Option.{option_copied};
 ghost use Rattle.std.specs.Bool.{OnTrue};
 ghost use Rattle.std.specs.List.{list_any};
 ghost use Rattle.std.specs.Str.{bytes_eq};
-ghost use Rattle.fc_outside.specs.Outside.{Files, Faults, IsFaultOf, ReadGives, CountsRead, CountsWrite, SameBut, holding, kept_name};
-ghost use Rattle.fc_outside.specs.Memory.{File, Calls, Memory, named, held_at, with_file, is_listed, called, read_fails, has_room, write_fails, filled, written_files, first_calls, has_failed, IsPlace, IsMissing, with_room, after_read, after_write};
+ghost use Rattle.fc_outside.specs.Outside.{Files, Faults, IsFaultOf, ReadGives, CountsRead, CountsWrite, SameBut, holding, kept_fault_name};
+ghost use Rattle.fc_outside.specs.Memory.{File, Calls, Memory, file_named, held_at, with_file, is_listed, calls_after, read_fails, has_room, write_fails, file_with_bytes, written_files, first_calls, has_failed, IsPlace, IsMissing, with_room, after_read, after_write};
 
 use crate::faults::FaultCount;
 use crate::outside::{ReadNo, Store, WriteFailed};
@@ -184,7 +184,7 @@ impl MemFile {
 
     fn fill(&mut self, bytes: &[u8])
         requires { length bytes.now ≤ self.old.room }
-        ensures { self.new ≡ filled self.old bytes.now }
+        ensures { self.new ≡ file_with_bytes self.old bytes.now }
     {
         self.bytes.clear();
         self.bytes.extend_from_slice(bytes).unwrap();
@@ -235,7 +235,7 @@ impl CallCount {
     }
 
     fn count(&mut self, name: &str, failed: bool)
-        ensures value { self.new ≡ called self.old name.now failed }
+        ensures value { self.new ≡ calls_after self.old name.now failed }
         ensures fault { OnTrue failed (IsFaultOf name.now self.old.faults self.new.faults) }
     {
         self.made = self.made.saturating_add(1);
@@ -274,7 +274,7 @@ fn put_file(files: &mut Vec<MemFile>, file: MemFile) -> Result<(), NoMemory>
 
 /// Writes to the file of this name, where it has room and the write is not listed as one to fail.
 fn write_to(files: &mut Vec<MemFile>, listed: bool, name: &[u8], bytes: &[u8]) -> bool
-    ensures done { result ≡ (not listed && has_room (named files.old.items name.now) (length bytes.now)) }
+    ensures done { result ≡ (not listed && has_room (file_named files.old.items name.now) (length bytes.now)) }
     ensures files { files.new.items ≡ (if result then written_files files.old.items name.now bytes.now else files.old.items) }
 {
     if listed {

@@ -9,7 +9,7 @@ use Rattle.guest_board.specs.Board.{State, may, run_from, step_of}
 use Rattle.guest_board.specs.declared.rules.Rules.{Rules}
 use Rattle.guest_board.specs.First.{first_state, first_slots}
 use Rattle.guest_board.specs.Laws.{NumberOfVcpusStays}
-use Rattle.run_evidence.specs.Config.{Config, rules_in, full, full_at, IsLawful}
+use Rattle.run_evidence.specs.Config.{Config, rules_in, full, full_at, IsLawfulSchedule}
 use Rattle.run_evidence.specs.Growing.{LawfulGrows}
 use Rattle.std.proofs.lemmas.List.FromFn.{length-map-range_with_len}
 use Rattle.full_run.proofs.Steps.{more}
@@ -38,19 +38,19 @@ take-whole schedule = grind (arith, common_steps)
 
 pub lawful_is_whole : LawfulIsWhole
 lawful_is_whole c schedule = (
-  (λ lawful. record { within = omega arith; lawful = subst (IsLawful c) (sym (take-whole schedule)) lawful; ends = λ within. absurd (omega (arith, within)) }),
-  (λ all. subst (IsLawful c) (take-whole schedule) all.lawful),
+  (λ lawful. record { within = omega arith; lawful = subst (IsLawfulSchedule c) (sym (take-whole schedule)) lawful; ends = λ within. absurd (omega (arith, within)) }),
+  (λ all. subst (IsLawfulSchedule c) (take-whole schedule) all.lawful),
 )
 
 -- from a front part on that is lawful, with so many members left
-longest-from : LawfulGrows → (c : Config) (schedule : List ℕ) (left made : ℕ) → made + left ≡ length schedule → IsLawful c (take made schedule) → (n : ℕ) × IsLongest c schedule n
+longest-from : LawfulGrows → (c : Config) (schedule : List ℕ) (left made : ℕ) → made + left ≡ length schedule → IsLawfulSchedule c (take made schedule) → (n : ℕ) × IsLongest c schedule n
 longest-from grows c schedule zero made all lawful = (made, record { within = omega (arith, all); lawful = lawful; ends = λ within. absurd (omega (arith, all, within)) })
 longest-from grows c schedule (suc left) made all lawful =
     step (may (rules_in c) (full_at c schedule made) (slice_index schedule made)) refl (longest-from grows c schedule left (made + 1) (omega (arith, all)))
   where
     step : (b : Bool) → may (rules_in c) (full_at c schedule made) (slice_index schedule made) ≡ b
-        → (IsLawful c (take (made + 1) schedule) → (n : ℕ) × IsLongest c schedule n) → (n : ℕ) × IsLongest c schedule n
-    step true goes later = later (subst (IsLawful c) (sym (more schedule made (omega (arith, all)))) (grows c (take made schedule) (slice_index schedule made) lawful goes))
+        → (IsLawfulSchedule c (take (made + 1) schedule) → (n : ℕ) × IsLongest c schedule n) → (n : ℕ) × IsLongest c schedule n
+    step true goes later = later (subst (IsLawfulSchedule c) (sym (more schedule made (omega (arith, all)))) (grows c (take made schedule) (slice_index schedule made) lawful goes))
     step false stops later = (made, record { within = omega (arith, all); lawful = lawful; ends = λ _. stops })
 
 pub each_has_longest : LawfulGrows → EachHasLongest

@@ -4,14 +4,14 @@ use Rattle.std.specs.Prelude.{slice_index, if◌then◌else◌}
 use Rattle.std.proofs.Math.Seq.{take-suc}
 use Rattle.guest_board.specs.declared.board.Full.TheVariants.{Stepped, Over}
 use Rattle.guest_board.specs.Board.{Seat, may, moved, step_of, next_of, full_after, full_answer}
-use Rattle.run_evidence.specs.Config.{Config, rules_in, full, IsLawful}
+use Rattle.run_evidence.specs.Config.{Config, rules_in, full, IsLawfulSchedule}
 use Rattle.run_evidence.specs.Growing.{board_of, BoardsMove, LawfulGrows}
 use Rattle.full_run.specs.Replay.{IsLongest}
 
 -- the board has made the first steps of the schedule, so many, and each of them exists
 pub record HasMade (c : Config) (schedule : List ℕ) (made : ℕ) (b : Seat) : Type 0 where
   pub board : b ≡ board_of c (take made schedule)
-  pub lawful : IsLawful c (take made schedule)
+  pub lawful : IsLawfulSchedule c (take made schedule)
 
 -- a step that was made exists
 went : (b : Seat) (i : ℕ) → (full_answer b i ≡ Over → ⊥) → may b.rules b.state i ≡ true
@@ -36,7 +36,7 @@ made-more moves grows c schedule made i board next within here h stepped is =
     = subst (λ (b : Seat). full_after b i ≡ board_of c (so_far ++ i ∷ [])) (sym h.board) (after-went (board_of c so_far) i goes ∙ sym (moves c so_far i)) in
     record {
       board = is ∙ now ∙ ap (board_of c) (sym longer);
-      lawful = subst (IsLawful c) (sym longer) (grows c so_far i h.lawful goes);
+      lawful = subst (IsLawfulSchedule c) (sym longer) (grows c so_far i h.lawful goes);
     }
 
 -- no step is left

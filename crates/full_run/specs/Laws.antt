@@ -1,6 +1,6 @@
 -- What a schedule and its length say of each other.
 use Rattle.std.specs.Prelude.{◌≡◌, ℕ, List, length}
-use Rattle.run_evidence.specs.Config.{Config, full, IsLawful}
+use Rattle.run_evidence.specs.Config.{Config, full, IsLawfulSchedule}
 use Rattle.full_run.specs.Replay.{IsLongest}
 
 -- a schedule has a number of steps that exist
@@ -13,7 +13,7 @@ LongestIsOne = (c : Config) (schedule : List ℕ) (m n : ℕ) → IsLongest c sc
 
 -- all steps of a lawful schedule exist, and of no other
 abbrev pub LawfulIsWhole : Type 0
-LawfulIsWhole = (c : Config) (schedule : List ℕ) → (IsLawful c schedule → IsLongest c schedule (length schedule)) × (IsLongest c schedule (length schedule) → IsLawful c schedule)
+LawfulIsWhole = (c : Config) (schedule : List ℕ) → (IsLawfulSchedule c schedule → IsLongest c schedule (length schedule)) × (IsLongest c schedule (length schedule) → IsLawfulSchedule c schedule)
 
 -- a run keeps the vCPUs of its setup
 abbrev pub RunsKeepVcpus : Type 0

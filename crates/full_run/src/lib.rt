@@ -13,7 +13,7 @@ ghost use Rattle.guest_input.specs.Accepted.{IsImage, IsSetupFor};
 ghost use Rattle.guest_board.specs.Board.{full_after, full_answer};
 ghost use Rattle.run_evidence.specs.Config.{Config};
 ghost use Rattle.run_evidence.specs.Growing.{board_of};
-ghost use Rattle.full_run.specs.Replay.{runs_of, IsLongest};
+ghost use Rattle.full_run.specs.Replay.{config_of_full_run, IsLongest};
 
 pub mod laws;
 #[cfg(test)]
@@ -65,8 +65,8 @@ pub fn replay(
     requires image { IsImage image.now }
     requires setup { IsSetupFor image.now setup.now }
     requires few { length schedule.now < 2 ^ 32 }
-    ensures board { IfOk result (λ ran. ran.board ≡ board_of (runs_of image.now setup.now) (take ran.made schedule.now)) }
-    ensures longest { IfOk result (λ ran. IsLongest (runs_of image.now setup.now) schedule.now ran.made) }
+    ensures board { IfOk result (λ ran. ran.board ≡ board_of (config_of_full_run image.now setup.now) (take ran.made schedule.now)) }
+    ensures longest { IfOk result (λ ran. IsLongest (config_of_full_run image.now setup.now) schedule.now ran.made) }
 {
     let mut board = Board::open(alloc, image, setup)?;
     let made = run(&mut board, schedule);
@@ -92,7 +92,7 @@ impl Rerun {
     pub fn open(alloc: Global, image: &Image, setup: &Setup) -> Result<Rerun, NoMemory>
         requires image { IsImage image.now }
         requires setup { IsSetupFor image.now setup.now }
-        ensures { IfOk result (λ rerun. rerun ≡ board_of (runs_of image.now setup.now) []) }
+        ensures { IfOk result (λ rerun. rerun ≡ board_of (config_of_full_run image.now setup.now) []) }
     {
         let board = Board::open(alloc, image, setup)?;
         Ok(Rerun { board })

@@ -21,7 +21,7 @@ use Rattle.guest_input.specs.declared.image.Function.{Function}
 use Rattle.guest_input.specs.declared.image.Start.{Start}
 use Rattle.guest_input.specs.Text.{IsStartIn, bytes_before, bytes_of, flat_of, no_span, spans_of}
 use Rattle.guest_input.specs.Accepted.{IsAscendingFrom, IsStarts, IsImage, starts_of}
-use Rattle.function_table.specs.Groups.{Groups, IsRangeOf, IsGroups, group_in, group_at, groups_of, groups_count, range_of, first_of, last_of, in_text, is_between, is_closed, begins_range, has_start, half_of, function_in}
+use Rattle.function_table.specs.Groups.{Groups, IsRangeOf, IsGroups, group_in, group_at, groups_of, groups_count, range_of, first_of, last_of, in_groups_text, is_between, is_closed, begins_range, has_start, half_of, function_in}
 use Rattle.lane_kernels.specs.Kernels.{is_open}
 
 -- where group g begins and ends, the first one at `low`
@@ -214,7 +214,7 @@ place-byte t g place ends here =
       at = omega (arith, low);
     }
 
-inside-group : (t : Groups) (g place : ℕ) → IsGroups t → HasEnds t g → holds (range_of t g) place ≡ true → in_text t place ≡ true
+inside-group : (t : Groups) (g place : ℕ) → IsGroups t → HasEnds t g → holds (range_of t g) place ≡ true → in_groups_text t place ≡ true
 inside-group t g place good ends here =
     let byte : IsByte t g place = place-byte t g place ends here in
     let is : place_in t.text (first_of t g + byte.far) ≡ place = byte-place t g byte.far good ends byte.short ∙ sym byte.at in
@@ -231,7 +231,7 @@ offset-between t g place good ends here =
     rw same (grind (arith, nat_tests, byte.short))
 
 -- a place of text whose offset is one of the group's is of its range
-place-between : (t : Groups) (g place : ℕ) → IsGroups t → HasEnds t g → in_text t place ≡ true
+place-between : (t : Groups) (g place : ℕ) → IsGroups t → HasEnds t g → in_groups_text t place ≡ true
     → is_between (first_of t g) (last_of t g) (offset_in t.text place) ≡ true → holds (range_of t g) place ≡ true
 place-between t g place good ends inside here =
     let low : first_of t g ≤ offset_in t.text place = grind (arith, nat_tests, here) in

@@ -57,8 +57,8 @@ function_in functions offset = count_by (λ start. nat_le start offset) function
 abbrev pub function_at : Groups → ℕ → ℕ
 function_at t place = function_in t.functions (offset_in t.text place)
 
-abbrev pub in_text : Groups → ℕ → Bool
-in_text t place = spans.in_text t.text place
+abbrev pub in_groups_text : Groups → ℕ → Bool
+in_groups_text t place = spans.in_text t.text place
 
 -- the start is at a byte of one of the ranges
 abbrev pub has_start : List Span → Start → Bool
@@ -90,8 +90,8 @@ pub record IsRangeOf (t : Groups) (g : ℕ) (s : Span) : Type 0 where
   pub some : s.start < s.end
   pub even_start : s.start % 2 ≡ 0
   pub even_end : s.end % 2 ≡ 0
-  pub inside : (place : ℕ) → holds s place ≡ true → in_text t place ≡ true
-  pub each : (place : ℕ) → in_text t place ≡ true → holds s place ≡ (group_at t place == g)
+  pub inside : (place : ℕ) → holds s place ≡ true → in_groups_text t place ≡ true
+  pub each : (place : ℕ) → in_groups_text t place ≡ true → holds s place ≡ (group_at t place == g)
   pub bytes : (offset : ℕ) → offset < text_size t.text → is_between (offset_in t.text s.start) (offset_in t.text s.start + size_of s) offset ≡ (group_in t.starts offset == g)
 
 -- what holds of the groups of every accepted image

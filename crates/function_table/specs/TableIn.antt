@@ -6,5 +6,5 @@ use Rattle.function_table.specs.Groups.{Groups, IsGroups}
 abbrev pub groups_in : Inside → Groups
 groups_in t = record { text = t.text.items; functions = arc_slice_items t.functions; starts = arc_slice_items t.starts }
 
-abbrev pub IsTable : Inside → Type 0
-IsTable t = IsGroups (groups_in t)
+abbrev pub IsGroupTable : Inside → Type 0
+IsGroupTable t = IsGroups (groups_in t)

@@ -8,7 +8,7 @@ ghost use Rattle.fc_numbers.specs.declared.places.TheConstants.{RAM_START, RAM_M
 ghost use Rattle.fc_numbers.specs.Spans.{IsTextBelow, offset_in, size_of, text_size};
 ghost use Rattle.guest_input.specs.Text.{IsStartIn, flat_of, no_span};
 ghost use Rattle.guest_input.specs.Accepted.{IsAscendingFrom, IsImage, offsets_of, starts_of};
-ghost use Rattle.function_table.specs.Groups.{Groups, IsGroups, IsRangeOf, function_at, group_at, group_in, groups_count, groups_of, has_start, in_text, is_closed, is_function, range_of};
+ghost use Rattle.function_table.specs.Groups.{Groups, IsGroups, IsRangeOf, function_at, group_at, group_in, groups_count, groups_of, has_start, in_groups_text, is_closed, is_function, range_of};
 
 use crate::halves::is_closed_start;
 use fc_numbers::memory::NoMemory;
@@ -31,13 +31,13 @@ pub struct Table {
 
 impl Model for Table {
     ghost use Rattle.function_table.specs.Groups.{Groups};
-    ghost use Rattle.function_table.specs.TableIn.{groups_in, IsTable};
+    ghost use Rattle.function_table.specs.TableIn.{groups_in, IsGroupTable};
 
     ghost Value = { Groups };
 
     ghost view = { groups_in };
 
-    ghost invariant = { IsTable };
+    ghost invariant = { IsGroupTable };
 }
 
 /// How many bytes the range of this number has; 0 where there is none.
@@ -193,7 +193,7 @@ impl Table {
 
     /// The offset in text of this place; None outside text.
     fn offset(&self, at: Gpa) -> Option<u32>
-        ensures { result ≡ (if in_text self.now at then Some (offset_in self.now.text at) else None) }
+        ensures { result ≡ (if in_groups_text self.now at then Some (offset_in self.now.text at) else None) }
     {
         match offset_of(self.text.as_slice(), at) {
             Some(offset) => Some(offset as u32),
@@ -203,7 +203,7 @@ impl Table {
 
     /// The function that holds this place, counted from 0 in order of address; None outside text.
     pub fn function_at(&self, at: Gpa) -> Option<u32>
-        ensures value { result ≡ (if in_text self.now at then Some (function_at self.now at) else None) }
+        ensures value { result ≡ (if in_groups_text self.now at then Some (function_at self.now at) else None) }
         ensures within { IfSome result (λ n. n < length self.now.functions) }
     {
         let offset = self.offset(at)?;
@@ -212,7 +212,7 @@ impl Table {
 
     /// The group that holds this place; None outside text.
     pub fn group_of(&self, at: Gpa) -> Option<GroupNo>
-        ensures value { result ≡ (if in_text self.now at then Some (group_at self.now at) else None) }
+        ensures value { result ≡ (if in_groups_text self.now at then Some (group_at self.now at) else None) }
         ensures within { IfSome result (λ g. g < groups_count self.now) }
     {
         let offset = self.offset(at)?;

@@ -6,12 +6,12 @@ use Rattle.fc_numbers.specs.declared.machine.GKind.{GKind}
 use Rattle.fc_numbers.specs.declared.machine.GKind.TheVariants.{Sv39x4, Sv48x4}
 use Rattle.fc_numbers.specs.declared.places.Span.{Span}
 use Rattle.fc_numbers.specs.Spans.{in_text}
-use Rattle.gstage.specs.Stage.{in_span, placed}
-use Rattle.gstage.specs.Walk.{walked_from, walked}
+use Rattle.gstage.specs.Stage.{in_span, placed_among}
+use Rattle.gstage.specs.Walk.{walked_from, walked_leaf}
 use Rattle.gstage.specs.Map.{AreSpans, mapped, page_in, ram_page, text_leaf, ram_leaf}
 use Rattle.gstage.specs.declared.stage.Placed.TheVariants as placed_in
 use Rattle.gstage.specs.declared.table.GTable.TheInside.{Inside}
-use Rattle.gstage.specs.Built.{IsBuilt, table_of}
+use Rattle.gstage.specs.Built.{IsBuilt, table_inside}
 use Rattle.gstage.specs.Table.{Table, pages_of}
 use Rattle.gstage.specs.Layout.{IsBuiltOf, entry_value, lower_value, page_entry, placed_by, pointer_to, text_entry, ram_entry}
 use Rattle.gstage.proofs.Steps.{walked-invalid, walked-below}
@@ -192,7 +192,7 @@ walked_near false text ram view at places leaf spans wide far is =
     sym (unmapped text ram view at spans out)
 
 -- the walk of the entries is the map, at every place
-pub maps : (kind : GKind) (entries : List ℕ) (text : List Span) (ram : Span) (view : ℕ) → AreSpans text ram → view < 256 → IsBuiltOf kind text ram view entries → (at : ℕ) → walked kind entries at ≡ mapped text ram view at
+pub maps : (kind : GKind) (entries : List ℕ) (text : List Span) (ram : Span) (view : ℕ) → AreSpans text ram → view < 256 → IsBuiltOf kind text ram view entries → (at : ℕ) → walked_leaf kind entries at ≡ mapped text ram view at
 maps Sv39x4 entries text ram view spans few built at =
     walked_near (ltb at 2199023255552) text ram view at 2199023255552 (walked_from entries at 2 (slice_index entries (at / 1073741824))) spans (omega arith) refl
     (from_root_39 entries text ram view at spans few built)
@@ -201,7 +201,7 @@ maps Sv48x4 entries text ram view spans few built at =
     (from_root_48 entries text ram view at spans few built)
 
 -- the entry of level 0 of a place says where it lies
-placed_entry : (kind : GKind) (entries : List ℕ) (text : List Span) (ram : Span) (view above at n : ℕ) → AreSpans text ram → IsBuiltOf kind text ram view entries → above + 32 ≡ pages_of kind → n < 16384 → 2147483648 + 4096 * n ≡ 4096 * (at / 4096) → placed_by (slice_index entries (512 * above + n)) ≡ placed text ram at
+placed_entry : (kind : GKind) (entries : List ℕ) (text : List Span) (ram : Span) (view above at n : ℕ) → AreSpans text ram → IsBuiltOf kind text ram view entries → above + 32 ≡ pages_of kind → n < 16384 → 2147483648 + 4096 * n ≡ 4096 * (at / 4096) → placed_by (slice_index entries (512 * above + n)) ≡ placed_among text ram at
 placed_entry Sv39x4 entries text ram view above at n spans built is few base =
     let same : 512 * above + n ≡ 512 * 4 + (512 + n) = omega (arith, is) in
     ap (λ k. placed_by (slice_index entries k)) same
@@ -211,17 +211,17 @@ placed_entry Sv48x4 entries text ram view above at n spans built is few base =
     ap (λ k. placed_by (slice_index entries k)) same
     ∙ ap placed_by (lower_48 entries text ram view built (512 + n) (omega (arith, few)) ∙ lowest text ram view 5 n) ∙ placed_page text ram view at n spans base
 
-pub placed_at : (a : Inside) (t : Table) (above at : ℕ) → table_of a ≡ t → IsBuilt a → above + 32 ≡ pages_of a.kind → 2147483648 ≤ at → at - 2147483648 < 67108864 → placed_by (slice_index a.entries.items (512 * above + (at - 2147483648) / 4096)) ≡ placed t.text t.ram at
+pub placed_at : (a : Inside) (t : Table) (above at : ℕ) → table_inside a ≡ t → IsBuilt a → above + 32 ≡ pages_of a.kind → 2147483648 ≤ at → at - 2147483648 < 67108864 → placed_by (slice_index a.entries.items (512 * above + (at - 2147483648) / 4096)) ≡ placed_among t.text t.ram at
 placed_at a t above at is built pages low high =
-    subst (λ (t : Table). placed_by (slice_index a.entries.items (512 * above + (at - 2147483648) / 4096)) ≡ placed t.text t.ram at) is
+    subst (λ (t : Table). placed_by (slice_index a.entries.items (512 * above + (at - 2147483648) / 4096)) ≡ placed_among t.text t.ram at) is
     (placed_entry a.kind a.entries.items a.text.items a.ram a.view above at ((at - 2147483648) / 4096) built.table.spans built.laid pages (omega (arith, high)) (omega (arith, low)))
 
-pub placed_far : (a : Inside) (t : Table) (at : ℕ) → table_of a ≡ t → IsBuilt a → (2147483648 ≤ at → at - 2147483648 < 67108864 → ⊥) → placed t.text t.ram at ≡ placed_in.Outside
+pub placed_far : (a : Inside) (t : Table) (at : ℕ) → table_inside a ≡ t → IsBuilt a → (2147483648 ≤ at → at - 2147483648 < 67108864 → ⊥) → placed_among t.text t.ram at ≡ placed_in.Outside
 placed_far a t at is built far =
     let start = built.table.spans.start in
     let size : a.ram.end ≤ 2214592512 = built.table.spans.most in
     let out : in_span a.ram at ≡ false = not_in a.ram (in_span a.ram at) refl start size in
-    subst (λ (t : Table). placed t.text t.ram at ≡ placed_in.Outside) is (outside a.text.items a.ram at built.table.spans out)
+    subst (λ (t : Table). placed_among t.text t.ram at ≡ placed_in.Outside) is (outside a.text.items a.ram at built.table.spans out)
   where
     not_in : (ram : Span) (b : Bool) → in_span ram at ≡ b → ram.start ≡ 2147483648 → ram.end ≤ 2214592512 → b ≡ false
     not_in ram true inside start size =

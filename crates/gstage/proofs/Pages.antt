@@ -5,13 +5,13 @@ use Rattle.fc_numbers.specs.declared.places.Span.{Span}
 use Rattle.fc_numbers.specs.Spans.{AreRangesFrom, holds, in_text, offset_in, size_of}
 use Rattle.fc_numbers.proofs.TextLaws.{places_above, offset_below}
 use Rattle.gstage.specs.declared.stage.Placed.TheVariants as placed_in
-use Rattle.gstage.specs.Stage.{in_span, placed}
+use Rattle.gstage.specs.Stage.{in_span, placed_among}
 use Rattle.fc_numbers.specs.declared.machine.Access.{Access}
 use Rattle.fc_numbers.specs.declared.machine.Access.TheVariants as access
 use Rattle.gstage.specs.declared.walk.Leaf.{Leaf}
 use Rattle.gstage.specs.declared.table.Frame.TheVariants as frame
 use Rattle.gstage.specs.declared.table.G.TheVariants as g
-use Rattle.gstage.specs.Map.{AreSpans, allows, found, frame_of, looked_up, mapped, page_in, ram_page, ram_leaf, text_found, text_leaf}
+use Rattle.gstage.specs.Map.{AreSpans, allows, found, frame_of_page, looked_up, mapped, page_in, ram_page, ram_leaf, text_found, text_leaf}
 use Rattle.gstage.specs.Layout.{page_entry, placed_by, text_entry, ram_entry}
 use Rattle.gstage.proofs.Entries.{text-placed, ram-placed}
 
@@ -68,13 +68,13 @@ unfolding page_entry
 page_entry_at text ram view at n spans base =
     rw (base, text_page text 2147483648 at spans.text.ranges, offset_page text 2147483648 at spans.text.ranges, ram_pages ram at spans.start spans.pages) refl
 
-placed_by_cases : (text : List Span) (ram : Span) (b c : Bool) (at p n : ℕ) → in_text text at ≡ b → in_span ram at ≡ c → placed_by (cond b (text_entry p) (cond c (ram_entry n) 0)) ≡ placed text ram at
+placed_by_cases : (text : List Span) (ram : Span) (b c : Bool) (at p n : ℕ) → in_text text at ≡ b → in_span ram at ≡ c → placed_by (cond b (text_entry p) (cond c (ram_entry n) 0)) ≡ placed_among text ram at
 placed_by_cases text ram true c at p n inside other = rw inside (text-placed p)
 placed_by_cases text ram false true at p n outside inside = rw (outside, inside) (ram-placed n)
 placed_by_cases text ram false false at p n outside other = rw (outside, other) refl
 
 -- the entry of the page of a place says where the place lies
-pub placed_page : (text : List Span) (ram : Span) (view at n : ℕ) → AreSpans text ram → 2147483648 + 4096 * n ≡ 4096 * (at / 4096) → placed_by (page_entry text ram view n) ≡ placed text ram at
+pub placed_page : (text : List Span) (ram : Span) (view at n : ℕ) → AreSpans text ram → 2147483648 + 4096 * n ≡ 4096 * (at / 4096) → placed_by (page_entry text ram view n) ≡ placed_among text ram at
 placed_page text ram view at n spans base =
     ap placed_by (page_entry_at text ram view at n spans base)
     ∙ placed_by_cases text ram (in_text text at) (in_span ram at) at (16384 + 1024 * view + page_in text at) n refl refl
@@ -84,7 +84,7 @@ outside_ram text ram at true spans out inside = let within = text_in_ram text ra
 outside_ram text ram at false spans out outside = refl
 
 -- outside the largest RAM nothing lies
-pub outside : (text : List Span) (ram : Span) (at : ℕ) → AreSpans text ram → in_span ram at ≡ false → placed text ram at ≡ placed_in.Outside
+pub outside : (text : List Span) (ram : Span) (at : ℕ) → AreSpans text ram → in_span ram at ≡ false → placed_among text ram at ≡ placed_in.Outside
 outside text ram at spans out = rw (outside_ram text ram at (in_text text at) spans out refl, out) refl
 
 -- the host page of a mapped place
@@ -105,7 +105,7 @@ pub mapped_page : (text : List Span) (ram : Span) (view at : ℕ) (leaf : Leaf) 
 mapped_page text ram view at leaf spans few is = page_by (in_text text at) (in_span ram at) text ram view at leaf spans few refl refl is
 
 -- the pages of text are those of the view
-text_frame : (view n : ℕ) → n < 1024 → frame_of (16384 + 1024 * view + n) ≡ frame.Text view n
+text_frame : (view n : ℕ) → n < 1024 → frame_of_page (16384 + 1024 * view + n) ≡ frame.Text view n
 text_frame view n few =
     let above : ltb (16384 + 1024 * view + n) 16384 ≡ false = grind (arith, nat_tests) in
     let number : (16384 + 1024 * view + n - 16384) / 1024 ≡ view = omega (arith, few) in
@@ -137,7 +137,7 @@ pub found_mapped : (text : List Span) (ram : Span) (view at : ℕ) (a : Access) 
 found_mapped text ram view at a spans = found_by (in_text text at) (in_span ram at) text ram view at a spans refl refl
 
 -- the access that a leaf of the map allows
-pub looked_leaf : (text : List Span) (ram : Span) (view at : ℕ) (a : Access) (leaf : Leaf) → AreSpans text ram → mapped text ram view at ≡ Some leaf → allows leaf a ≡ true → g.Frame (frame_of leaf.page) ≡ looked_up text ram view at a
+pub looked_leaf : (text : List Span) (ram : Span) (view at : ℕ) (a : Access) (leaf : Leaf) → AreSpans text ram → mapped text ram view at ≡ Some leaf → allows leaf a ≡ true → g.Frame (frame_of_page leaf.page) ≡ looked_up text ram view at a
 looked_leaf text ram view at a leaf spans is allowed =
-    let here : g.Frame (frame_of leaf.page) ≡ found (Some leaf) a = rw allowed refl in
+    let here : g.Frame (frame_of_page leaf.page) ≡ found (Some leaf) a = rw allowed refl in
     here ∙ ap (λ o. found o a) (sym is) ∙ found_mapped text ram view at a spans

@@ -51,13 +51,13 @@ allows leaf access.Fetch = leaf.user && leaf.execute
 allows leaf access.Load = leaf.user && leaf.read
 allows leaf access.Store = leaf.user && leaf.write
 
-abbrev pub frame_of : ℕ → Frame
-frame_of page = if nat_lt page TEXT_PAGES then frame.Ram page else frame.Text ((page - TEXT_PAGES) / VIEW_PAGES) ((page - TEXT_PAGES) % VIEW_PAGES)
+abbrev pub frame_of_page : ℕ → Frame
+frame_of_page page = if nat_lt page TEXT_PAGES then frame.Ram page else frame.Text ((page - TEXT_PAGES) / VIEW_PAGES) ((page - TEXT_PAGES) % VIEW_PAGES)
 
 -- the answer for a leaf, or for none
 abbrev pub found : Option Leaf → Access → G
 found None access = g.Unmapped
-found (Some leaf) access = if allows leaf access then g.Frame (frame_of leaf.page) else g.ExecOnly
+found (Some leaf) access = if allows leaf access then g.Frame (frame_of_page leaf.page) else g.ExecOnly
 
 -- text may be executed alone
 abbrev pub text_found : ℕ → ℕ → Access → G

@@ -11,8 +11,8 @@ use Rattle.gstage.specs.declared.stage.Placed.TheVariants as placed_in
 abbrev pub in_span : Span → ℕ → Bool
 in_span s at = nat_le s.start at && nat_lt at s.end
 
-abbrev pub placed : List Span → Span → ℕ → Placed
-placed text ram at =
+abbrev pub placed_among : List Span → Span → ℕ → Placed
+placed_among text ram at =
     if in_text text at then placed_in.Text
     else if in_span ram at then placed_in.Ram
     else placed_in.Outside

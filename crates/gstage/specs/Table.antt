@@ -4,7 +4,7 @@ use Rattle.std.specs.Prelude.{◌≡◌, ◌+◌, ◌-◌, ◌*◌, ◌<◌, ◌
 use Rattle.fc_numbers.specs.declared.machine.GKind.{GKind}
 use Rattle.fc_numbers.specs.declared.places.Span.{Span}
 use Rattle.gstage.specs.declared.table.TheConstants.{ROOT_PAGES, LEAF_TABLES, TABLE}
-use Rattle.gstage.specs.Walk.{top, walked}
+use Rattle.gstage.specs.Walk.{top, walked_leaf}
 use Rattle.gstage.specs.Map.{AreSpans, mapped}
 
 pub record Table : Type 0 where
@@ -22,4 +22,4 @@ pub record IsTable (t : Table) : Type 0 where
   pub spans : AreSpans t.text t.ram
   pub few : t.view < 2 ^ 8
   pub size : length t.entries ≡ TABLE * pages_of t.kind
-  pub maps : (at : ℕ) → walked t.kind t.entries at ≡ mapped t.text t.ram t.view at
+  pub maps : (at : ℕ) → walked_leaf t.kind t.entries at ≡ mapped t.text t.ram t.view at

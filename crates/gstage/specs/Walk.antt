@@ -50,7 +50,7 @@ bits Sv39x4 = 41
 bits Sv48x4 = 50
 
 -- the root has an entry for each number that the highest 11 bits of a place may have
-abbrev pub walked : GKind → List ℕ → ℕ → Option Leaf
-walked kind entries at =
+abbrev pub walked_leaf : GKind → List ℕ → ℕ → Option Leaf
+walked_leaf kind entries at =
     if nat_lt at (2 ^ bits kind) then walked_from entries at (top kind) (slice_index entries (at / 2 ^ (12 + 9 * top kind)))
     else None

@@ -2,7 +2,7 @@
 
 ghost use Rattle.std.specs.Prelude.{◌≡◌, ℕ, List};
 ghost use Rattle.fc_numbers.specs.declared.places.Span.{Span};
-ghost use Rattle.gstage.specs.Stage.{placed};
+ghost use Rattle.gstage.specs.Stage.{placed_among};
 
 use fc_numbers::machine::Access;
 use fc_numbers::places::{Gpa, Span};
@@ -29,7 +29,7 @@ pub trait SecondStage {
 
     /// Where the place lies for this access.
     fn place(&self, at: Gpa, access: Access) -> Placed
-        ensures { result ≡ placed (text self.now) (ram self.now) at };
+        ensures { result ≡ placed_among (text self.now) (ram self.now) at };
 }
 
 /// The stage that compares a place with the ranges of text and the span of RAM.

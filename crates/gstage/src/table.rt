@@ -2,9 +2,9 @@
 
 ghost use Rattle.std.specs.Prelude.{◌≡◌, ℕ, ◌+◌, ◌*◌, ◌<◌, ◌≤◌, IfOk, List, length};
 ghost use Rattle.fc_numbers.specs.declared.places.Span.{Span};
-ghost use Rattle.gstage.specs.Stage.{placed};
-ghost use Rattle.gstage.specs.Walk.{walked};
-ghost use Rattle.gstage.specs.Map.{AreSpans, mapped, allows, frame_of, found, looked_up};
+ghost use Rattle.gstage.specs.Stage.{placed_among};
+ghost use Rattle.gstage.specs.Walk.{walked_leaf};
+ghost use Rattle.gstage.specs.Map.{AreSpans, mapped, allows, frame_of_page, found, looked_up};
 ghost use Rattle.gstage.specs.Layout.{page_entry, pointer_to, lower_value, entry_value, placed_by, IsBuiltOf};
 ghost use Rattle.gstage.specs.Table.{Table, pages_of};
 
@@ -84,9 +84,9 @@ impl Model for GTable {
 
     ghost Value = { Table };
 
-    ghost use Rattle.gstage.specs.Built.{table_of, IsBuilt};
+    ghost use Rattle.gstage.specs.Built.{table_inside, IsBuilt};
 
-    ghost view = { table_of };
+    ghost view = { table_inside };
 
     ghost invariant = { IsBuilt };
 }
@@ -221,7 +221,7 @@ fn placed_by(entry: u64) -> Placed
 /// The host page of a page number.
 fn frame_of(page: u64) -> Frame
     requires { page < 278528 }
-    ensures { result ≡ frame_of page }
+    ensures { result ≡ frame_of_page page }
 {
     if page < TEXT_PAGES {
         Frame::Ram(page as u32)
@@ -260,7 +260,7 @@ impl GTable {
         ensures ram { IfOk result (λ table. table.ram ≡ ram) }
         ensures view { IfOk result (λ table. table.view ≡ view) }
         ensures size { IfOk result (λ table. length table.entries ≡ TABLE * pages_of kind) }
-        ensures maps { IfOk result (λ table. (at : ℕ) → walked kind table.entries at ≡ mapped text.items ram view at) }
+        ensures maps { IfOk result (λ table. (at : ℕ) → walked_leaf kind table.entries at ≡ mapped text.items ram view at) }
     {
         let entries = entries_of(alloc, kind, text.as_slice(), &ram, view.0)?;
         Ok(GTable {
@@ -275,7 +275,7 @@ impl GTable {
     /// Where an access to the place goes, by the walk of the table.
     #[tactic(auto, using(crate::proofs::Pages::mapped_page, crate::proofs::Pages::found_mapped, crate::proofs::Pages::looked_leaf))]
     pub fn lookup(&self, at: Gpa, access: Access) -> G
-        ensures walk { result ≡ found (walked self.now.kind self.now.entries at) access }
+        ensures walk { result ≡ found (walked_leaf self.now.kind self.now.entries at) access }
         ensures map { result ≡ looked_up self.now.text self.now.ram self.now.view at access }
     {
         match walk(self.kind, &self.entries, at.0) {

@@ -2,7 +2,7 @@
 //! Page-Based 50-bit Virtual-Memory System").
 
 ghost use Rattle.std.specs.Prelude.{◌≡◌, ◌≤◌, ◌<◌, ◌+◌, ◌*◌, ◌/◌, ◌%◌, ◌^◌, slice_index};
-ghost use Rattle.gstage.specs.Walk.{is_valid, is_pointer, leaf_at, walked_from, walked, top, bits};
+ghost use Rattle.gstage.specs.Walk.{is_valid, is_pointer, leaf_at, walked_from, walked_leaf, top, bits};
 
 use fc_numbers::machine::GKind;
 use page_table::{
@@ -136,7 +136,7 @@ fn root_index(kind: GKind, at: u64) -> u64
 
 /// The leaf that the walk of the entries finds for a place.
 pub fn walk(kind: GKind, entries: &[u64], at: u64) -> Option<Leaf>
-    ensures { result ≡ walked kind entries.now at }
+    ensures { result ≡ walked_leaf kind entries.now at }
 {
     if at >= places(kind) {
         return None;

@@ -3,7 +3,7 @@
 use Rattle.std.specs.Prelude.{ℕ, nat_lt, List, [], ◌∷◌, codes, Bool, if◌then◌else◌, Option, Some, None, option_map, option_and_then, bytes_eq, Result, Ok}
 use Rattle.serde_json.specs.Data.{Data}
 use Rattle.fc_numbers.specs.Names.{is_app_name}
-use Rattle.json_fields.specs.Fields.{is_object, is_null, whole_of, text_of, array_of, triple_of, each_of, has_only_keys}
+use Rattle.json_fields.specs.Fields.{is_object, is_null, whole_of, string_of, array_of, triple_of, each_of, has_only_keys}
 use Rattle.fc_numbers.specs.declared.machine.GKind.{GKind}
 use Rattle.fc_numbers.specs.declared.machine.GKind.TheVariants.{Sv39x4, Sv48x4}
 use Rattle.elf_read.specs.Steps.{◌>>=◌, must, or_fault}
@@ -21,17 +21,17 @@ abbrev pub null_or : {A : Type 0} → (Data → Option A) → Data → Option (O
 null_or f d = if is_null d then Some None else option_map Some (f d)
 
 unfoldable pub hook_of : Data → Option (Option (List ℕ))
-hook_of d = null_or text_of d
+hook_of d = null_or string_of d
 
 abbrev pub if_app_name : List ℕ → Option (List ℕ)
 if_app_name name = if is_app_name name then Some name else None
 
 -- a text that is an app name
-unfoldable pub app_name_of : Data → Option (List ℕ)
-app_name_of d = option_and_then if_app_name (text_of d)
+unfoldable pub asked_app_name : Data → Option (List ℕ)
+asked_app_name d = option_and_then if_app_name (string_of d)
 
-unfoldable pub start_of : Data → Option (Option (List ℕ))
-start_of d = null_or app_name_of d
+unfoldable pub asked_start : Data → Option (Option (List ℕ))
+asked_start d = null_or asked_app_name d
 
 -- what the word and the number of an event ask for
 unfoldable pub what_of : List ℕ → ℕ → Option AskedWhat
@@ -43,7 +43,7 @@ what_of word n =
 
 abbrev pub event_from : Data × Data × Data → Option AskedEvent
 event_from t =
-    option_and_then (λ at. option_and_then (λ word. option_and_then (λ n. option_map (λ what. record { at = at; what = what }) (what_of word n)) (whole_of t.2)) (text_of t.1)) (whole_of t.0)
+    option_and_then (λ at. option_and_then (λ word. option_and_then (λ n. option_map (λ what. record { at = at; what = what }) (what_of word n)) (whole_of t.2)) (string_of t.1)) (whole_of t.0)
 
 -- [clock, word, number]
 unfoldable pub event_of : Data → Option AskedEvent
@@ -56,8 +56,8 @@ abbrev pub kind_named : List ℕ → Option GKind
 kind_named name = if bytes_eq name (codes "sv39x4") then Some Sv39x4 else if bytes_eq name (codes "sv48x4") then Some Sv48x4 else None
 
 -- the name of a kind of second-stage tables
-unfoldable pub kind_of : Data → Option GKind
-kind_of d = option_and_then kind_named (text_of d)
+unfoldable pub asked_kind : Data → Option GKind
+asked_kind d = option_and_then kind_named (string_of d)
 
 abbrev pub setup_keys : List (List ℕ)
 setup_keys = codes "vcpus" ∷ codes "ram" ∷ codes "steps" ∷ codes "hook" ∷ codes "name_at" ∷ codes "start" ∷ codes "events" ∷ codes "gstage" ∷ []
@@ -75,8 +75,8 @@ asked_of d = do
   steps ← or_fault (Shape key.Steps) (member_as whole_of (codes "steps") d)
   hook ← or_fault (Shape key.Hook) (member_or hook_of None (codes "hook") d)
   name_at ← or_fault (Shape key.NameAt) (member_or whole_of 0 (codes "name_at") d)
-  start ← or_fault (Shape key.Start) (member_or start_of None (codes "start") d)
+  start ← or_fault (Shape key.Start) (member_or asked_start None (codes "start") d)
   events ← or_fault (Shape key.Events) (member_or events_of [] (codes "events") d)
-  gstage ← or_fault (Shape key.Gstage) (member_or kind_of Sv39x4 (codes "gstage") d)
+  gstage ← or_fault (Shape key.Gstage) (member_or asked_kind Sv39x4 (codes "gstage") d)
   known ← must (Shape key.Other) (is_setup_known d)
   Ok (record { vcpus = vcpus; ram = ram; steps = steps; hook = hook; name_at = name_at; start = start; events = events; gstage = gstage })

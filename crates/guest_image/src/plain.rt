@@ -5,7 +5,7 @@ ghost use Rattle.serde_json.specs.View.{view};
 ghost use Rattle.json_fields.specs.Fields.{whole_of};
 ghost use Rattle.elf_read.specs.Starts.{kept_name};
 ghost use Rattle.json_fields.specs.Members.{member_as, member_or};
-ghost use Rattle.guest_image.specs.Plain.{hex_of, name_of, segment_of, named_of, segments_of, is_filled, parts_of, names_of, is_known, has_key, laid_with, coded_of, single_of, plain_of, segment_at};
+ghost use Rattle.guest_image.specs.Plain.{hex_of, plain_name, plain_segment, plain_named_place, segments_of, is_filled, plain_parts, plain_named_places, is_image_known, has_key, laid_with, coded_of, single_of, plain_of, segment_of_bytes};
 ghost use Rattle.json_fields.specs.declared.misfit.Misfit.TheVariants.{Form};
 ghost use Rattle.guest_image.specs.declared.image.ImageFault.TheVariants.{Elf, Shape};
 ghost use Rattle.elf_read.specs.declared.parts.ElfFault.TheVariants as elf;
@@ -57,10 +57,10 @@ fn hex_member(alloc: Global, value: &Value, key: &str) -> Result<Items<u8>, Misf
 }
 
 /// The segment that an address and a hexadecimal text are.
-#[tactic(auto, unfolding(crate::specs::Plain::segment_of))]
+#[tactic(auto, unfolding(crate::specs::Plain::plain_segment))]
 fn read_segment(alloc: Global, value: &Value) -> Result<Segment, Misfit>
-    ensures ok { IfOk result (λ segment. segment_of (view value.now) ≡ Some segment) }
-    ensures err { IfErr result (λ misfit. misfit ≡ Form → segment_of (view value.now) ≡ None) }
+    ensures ok { IfOk result (λ segment. plain_segment (view value.now) ≡ Some segment) }
+    ensures err { IfErr result (λ misfit. misfit ≡ Form → plain_segment (view value.now) ≡ None) }
 {
     let (place, digits) = pair(value).ok_or(Misfit::Form)?;
     let place = whole(place).ok_or(Misfit::Form)?;
@@ -70,7 +70,7 @@ fn read_segment(alloc: Global, value: &Value) -> Result<Segment, Misfit>
 
 /// Bytes at a place, with no zeros behind them.
 fn segment_at(place: u64, bytes: Items<u8>) -> Segment
-    ensures { result ≡ segment_at place bytes }
+    ensures { result ≡ segment_of_bytes place bytes }
 {
     let size = bytes.len() as u64;
     Segment {
@@ -81,20 +81,20 @@ fn segment_at(place: u64, bytes: Items<u8>) -> Segment
 }
 
 /// A name, as it is kept.
-#[tactic(auto, unfolding(crate::specs::Plain::name_of))]
+#[tactic(auto, unfolding(crate::specs::Plain::plain_name))]
 fn name_bytes(alloc: Global, value: &Value) -> Result<Items<u8>, Misfit>
-    ensures ok { IfOk result (λ name. name_of (view value.now) ≡ Some name) }
-    ensures err { IfErr result (λ misfit. misfit ≡ Form → name_of (view value.now) ≡ None) }
+    ensures ok { IfOk result (λ name. plain_name (view value.now) ≡ Some name) }
+    ensures err { IfErr result (λ misfit. misfit ≡ Form → plain_name (view value.now) ≡ None) }
 {
     let name = text(value).ok_or(Misfit::Form)?;
     Ok(keep_name(alloc, name.as_bytes())?)
 }
 
 /// The place that an address and a name are.
-#[tactic(auto, unfolding(crate::specs::Plain::named_of))]
+#[tactic(auto, unfolding(crate::specs::Plain::plain_named_place))]
 fn read_named(alloc: Global, value: &Value) -> Result<NamedPlace, Misfit>
-    ensures ok { IfOk result (λ named. named_of (view value.now) ≡ Some named) }
-    ensures err { IfErr result (λ misfit. misfit ≡ Form → named_of (view value.now) ≡ None) }
+    ensures ok { IfOk result (λ named. plain_named_place (view value.now) ≡ Some named) }
+    ensures err { IfErr result (λ misfit. misfit ≡ Form → plain_named_place (view value.now) ≡ None) }
 {
     let (place, name) = pair(value).ok_or(Misfit::Form)?;
     let place = whole(place).ok_or(Misfit::Form)?;
@@ -131,10 +131,10 @@ fn push_filled(parts: &mut Vec<Segment>, segment: Segment) -> Result<(), NoMemor
 }
 
 /// The data parts but the empty ones.
-#[tactic(auto, unfolding(crate::specs::Plain::parts_of, crate::specs::Plain::segments_of))]
+#[tactic(auto, unfolding(crate::specs::Plain::plain_parts, crate::specs::Plain::segments_of))]
 fn read_parts(alloc: Global, value: &Value) -> Result<Vec<Segment>, Misfit>
-    ensures ok { IfOk result (λ parts. parts_of (view value.now) ≡ Some parts.items) }
-    ensures err { IfErr result (λ misfit. misfit ≡ Form → parts_of (view value.now) ≡ None) }
+    ensures ok { IfOk result (λ parts. plain_parts (view value.now) ≡ Some parts.items) }
+    ensures err { IfErr result (λ misfit. misfit ≡ Form → plain_parts (view value.now) ≡ None) }
 {
     let items = array(value).ok_or(Misfit::Form)?;
     let mut parts = Vec::new(alloc);
@@ -146,10 +146,10 @@ fn read_parts(alloc: Global, value: &Value) -> Result<Vec<Segment>, Misfit>
 }
 
 /// The places that have names.
-#[tactic(auto, unfolding(crate::specs::Plain::names_of))]
+#[tactic(auto, unfolding(crate::specs::Plain::plain_named_places))]
 fn read_names(alloc: Global, value: &Value) -> Result<Items<NamedPlace>, Misfit>
-    ensures ok { IfOk result (λ named. names_of (view value.now) ≡ Some named) }
-    ensures err { IfErr result (λ misfit. misfit ≡ Form → names_of (view value.now) ≡ None) }
+    ensures ok { IfOk result (λ named. plain_named_places (view value.now) ≡ Some named) }
+    ensures err { IfErr result (λ misfit. misfit ≡ Form → plain_named_places (view value.now) ≡ None) }
 {
     let items = array(value).ok_or(Misfit::Form)?;
     let mut named = Items::new(alloc);
@@ -171,8 +171,8 @@ fn code_member(alloc: Global, value: &Value) -> Result<Vec<Segment>, Misfit>
 
 /// The data parts of the file but the empty ones; none where the file does not speak of them.
 fn parts_member(alloc: Global, value: &Value) -> Result<Vec<Segment>, Misfit>
-    ensures ok { IfOk result (λ parts. member_or parts_of [] (codes "data") (view value.now) ≡ Some parts.items) }
-    ensures err { IfErr result (λ misfit. misfit ≡ Form → member_or parts_of [] (codes "data") (view value.now) ≡ None) }
+    ensures ok { IfOk result (λ parts. member_or plain_parts [] (codes "data") (view value.now) ≡ Some parts.items) }
+    ensures err { IfErr result (λ misfit. misfit ≡ Form → member_or plain_parts [] (codes "data") (view value.now) ≡ None) }
 {
     match member(value, "data") {
         Some(found) => read_parts(alloc, found),
@@ -182,8 +182,8 @@ fn parts_member(alloc: Global, value: &Value) -> Result<Vec<Segment>, Misfit>
 
 /// The named places of the file; none where the file does not speak of them.
 fn names_member(alloc: Global, value: &Value) -> Result<Items<NamedPlace>, Misfit>
-    ensures ok { IfOk result (λ named. member_or names_of [] (codes "functions") (view value.now) ≡ Some named) }
-    ensures err { IfErr result (λ misfit. misfit ≡ Form → member_or names_of [] (codes "functions") (view value.now) ≡ None) }
+    ensures ok { IfOk result (λ named. member_or plain_named_places [] (codes "functions") (view value.now) ≡ Some named) }
+    ensures err { IfErr result (λ misfit. misfit ≡ Form → member_or plain_named_places [] (codes "functions") (view value.now) ≡ None) }
 {
     match member(value, "functions") {
         Some(found) => read_names(alloc, found),
@@ -212,9 +212,9 @@ fn has_key(value: &Value, key: &str) -> bool
 }
 
 /// Whether the value has no key but those of an image.
-#[tactic(auto, unfolding(crate::specs::Plain::is_known))]
+#[tactic(auto, unfolding(crate::specs::Plain::is_image_known))]
 fn is_known(value: &Value) -> bool
-    ensures { result ≡ is_known (view value.now) }
+    ensures { result ≡ is_image_known (view value.now) }
 {
     has_only(
         value,

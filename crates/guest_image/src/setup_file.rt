@@ -4,7 +4,7 @@ ghost use Rattle.std.specs.Prelude.{◌≡◌, ◌≢◌, [], codes, map, Some, 
 ghost use Rattle.serde_json.specs.View.{view};
 ghost use Rattle.json_fields.specs.Fields.{whole_of};
 ghost use Rattle.json_fields.specs.Members.{member_as, member_or};
-ghost use Rattle.guest_image.specs.Asked.{hook_of, start_of, what_of, event_of, events_of, is_setup_known, asked_of, app_name_of, kind_named, kind_of};
+ghost use Rattle.guest_image.specs.Asked.{hook_of, asked_start, what_of, event_of, events_of, is_setup_known, asked_of, asked_app_name, kind_named, asked_kind};
 ghost use Rattle.guest_image.specs.Limits.{setup_of};
 ghost use Rattle.guest_input.specs.Accepted.{IsSetupFor};
 ghost use Rattle.guest_input.specs.Text.{AreRanges, bytes_of, spans_of};
@@ -90,9 +90,9 @@ fn hook_member(alloc: Global, value: &Value) -> Result<Option<Items<u8>>, Misfit
 }
 
 /// The app name that a text is.
-#[tactic(auto, unfolding(crate::specs::Asked::app_name_of))]
+#[tactic(auto, unfolding(crate::specs::Asked::asked_app_name))]
 fn read_app_name(value: &Value) -> Option<Name>
-    ensures { result ≡ app_name_of (view value.now) }
+    ensures { result ≡ asked_app_name (view value.now) }
 {
     match text(value) {
         Some(name) => Name::of(name.as_bytes()),
@@ -101,9 +101,9 @@ fn read_app_name(value: &Value) -> Option<Name>
 }
 
 /// The first app name: null or a text that is an app name.
-#[tactic(auto, unfolding(crate::specs::Asked::start_of))]
+#[tactic(auto, unfolding(crate::specs::Asked::asked_start))]
 fn read_start(value: &Value) -> Option<Option<Name>>
-    ensures { result ≡ start_of (view value.now) }
+    ensures { result ≡ asked_start (view value.now) }
 {
     if is_null(value) {
         return Some(None);
@@ -115,7 +115,7 @@ fn read_start(value: &Value) -> Option<Option<Name>>
 }
 
 fn start_member(value: &Value) -> Option<Option<Name>>
-    ensures { result ≡ member_or start_of None (codes "start") (view value.now) }
+    ensures { result ≡ member_or asked_start None (codes "start") (view value.now) }
 {
     match member(value, "start") {
         Some(found) => read_start(found),
@@ -194,9 +194,9 @@ fn kind_named(name: &str) -> Option<GKind>
     }
 }
 
-#[tactic(auto, unfolding(crate::specs::Asked::kind_of))]
+#[tactic(auto, unfolding(crate::specs::Asked::asked_kind))]
 fn read_kind(value: &Value) -> Option<GKind>
-    ensures { result ≡ kind_of (view value.now) }
+    ensures { result ≡ asked_kind (view value.now) }
 {
     match text(value) {
         Some(name) => kind_named(name),
@@ -205,7 +205,7 @@ fn read_kind(value: &Value) -> Option<GKind>
 }
 
 fn kind_member(value: &Value) -> Option<GKind>
-    ensures { result ≡ member_or kind_of Sv39x4 (codes "gstage") (view value.now) }
+    ensures { result ≡ member_or asked_kind Sv39x4 (codes "gstage") (view value.now) }
 {
     match member(value, "gstage") {
         Some(found) => read_kind(found),

@@ -12,7 +12,7 @@ use Rattle.guest_maker.specs.declared.line.Line.{Line}
 use Rattle.guest_maker.specs.declared.line.Line.TheVariants.{Plain, AddDistance, Jump, BranchIfEqual}
 use Rattle.guest_maker.specs.declared.line.Label.{Label}
 use Rattle.guest_maker.specs.declared.line.Label.TheVariants.{Trap, SwitchTo, Red, Blue, First, Second, Third, Fourth, Numbered}
-use Rattle.guest_maker.specs.Text.{resolved, distance, AllFit}
+use Rattle.guest_maker.specs.Text.{instruction_of_line, distance, AllFit}
 
 pub both : (a b : Bool) → (a && b) ≡ true → (a ≡ true) × (b ≡ true)
 both true b h = (refl, h)
@@ -116,7 +116,7 @@ is_fine at (AddDistance rd rs1 to) = nat_lt rd 32 && (nat_lt rs1 32 && (nat_lt a
 is_fine at (Jump rd to) = nat_lt rd 32 && nat_lt at 16384
 is_fine at (BranchIfEqual rs1 rs2 to) = nat_lt rs1 32 && (nat_lt rs2 32 && (nat_lt at 2048 && is_near to))
 
-fine_fits : (target : Label → ℕ) → AreTargets target → (at : ℕ) → at % 2 ≡ 0 → (l : Line) → is_fine at l ≡ true → IsSome (encode_of (resolved target at l))
+fine_fits : (target : Label → ℕ) → AreTargets target → (at : ℕ) → at % 2 ≡ 0 → (l : Line) → is_fine at l ≡ true → IsSome (encode_of (instruction_of_line target at l))
 unfolding encode_of
 fine_fits target t at even (Plain inst) h = h
 fine_fits target t at even (AddDistance rd rs1 to) h =

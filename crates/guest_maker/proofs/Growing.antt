@@ -9,13 +9,13 @@ use Rattle.guest_maker.specs.declared.line.Line.{Line}
 use Rattle.guest_maker.specs.declared.line.Line.TheVariants.{Plain}
 use Rattle.guest_maker.specs.declared.program.Program.{Program}
 use Rattle.guest_maker.specs.declared.programs.TheConstants.{A2}
-use Rattle.guest_maker.specs.Generator.{next, answer, after}
-use Rattle.guest_maker.specs.Program.{Routine, IsProgram, function_at, functions_from, lines_of, idle, state_at, numbered, behind_routine, drawn_routine}
+use Rattle.guest_maker.specs.Generator.{generator_next, answer, generator_after}
+use Rattle.guest_maker.specs.Program.{Routine, IsProgram, function_at_offset, functions_behind_lines, lines_of_routines, idle, state_at, numbered, behind_routine, drawn_routine}
 
-pub after-more : (n s : ℕ) → after (n + 1) s ≡ next (after n s)
+pub after-more : (n s : ℕ) → generator_after (n + 1) s ≡ generator_next (generator_after n s)
 after-more n s = rw add-one refl
 
-pub idle-more : (n s : ℕ) → idle (n + 1) s ≡ idle n s ++ Plain (Addi A2 A2 (pos (answer (after (n + 1) s) % 2048))) ∷ []
+pub idle-more : (n s : ℕ) → idle (n + 1) s ≡ idle n s ++ Plain (Addi A2 A2 (pos (answer (generator_after (n + 1) s) % 2048))) ∷ []
 idle-more n s = rw add-one refl
 
 pub length-idle : (n s : ℕ) → length (idle n s) ≡ n
@@ -30,25 +30,25 @@ pub numbered-more : (n s : ℕ) → numbered (n + 1) s ≡ numbered n s ++ drawn
 unfolding numbered
 numbered-more n s = rw add-one refl
 
-pub functions_from-append : (n : ℕ) (rs qs : List Routine) → functions_from n (rs ++ qs) ≡ functions_from n rs ++ functions_from (n + length (lines_of rs)) qs
-functions_from-append n [] qs = ap (λ k. functions_from k qs) (omega arith)
+pub functions_from-append : (n : ℕ) (rs qs : List Routine) → functions_behind_lines n (rs ++ qs) ≡ functions_behind_lines n rs ++ functions_behind_lines (n + length (lines_of_routines rs)) qs
+functions_from-append n [] qs = ap (λ k. functions_behind_lines k qs) (omega arith)
 functions_from-append n (r ∷ rs) qs =
-    let long : length (r.lines ++ lines_of rs) ≡ length r.lines + length (lines_of rs) = length-append r.lines (lines_of rs) in
-    let place : n + length r.lines + length (lines_of rs) ≡ n + length (r.lines ++ lines_of rs) = omega arith in
-    ap (λ fs. function_at (4 * n) r.name ∷ fs) (functions_from-append (n + length r.lines) rs qs
-    ∙ ap (λ k. functions_from (n + length r.lines) rs ++ functions_from k qs) place)
+    let long : length (r.lines ++ lines_of_routines rs) ≡ length r.lines + length (lines_of_routines rs) = length-append r.lines (lines_of_routines rs) in
+    let place : n + length r.lines + length (lines_of_routines rs) ≡ n + length (r.lines ++ lines_of_routines rs) = omega arith in
+    ap (λ fs. function_at_offset (4 * n) r.name ∷ fs) (functions_from-append (n + length r.lines) rs qs
+    ∙ ap (λ k. functions_behind_lines (n + length r.lines) rs ++ functions_behind_lines k qs) place)
 
 abbrev routine : List ℕ → List Line → Routine
 routine name lines = record { name = name; lines = lines }
 
 -- one more function
 pub program_grows : (p q : Program) (rs : List Routine) (name : List ℕ) (lines : List Line) → IsProgram p rs → q.lines.items ≡ p.lines.items ++ lines
-    → q.functions ≡ p.functions ++ function_at (4 * length p.lines.items) name ∷ [] → IsProgram q (rs ++ routine name lines ∷ [])
+    → q.functions ≡ p.functions ++ function_at_offset (4 * length p.lines.items) name ∷ [] → IsProgram q (rs ++ routine name lines ∷ [])
 program_grows p q rs name lines h grown more = record {
-  lines = grown ∙ ap (λ ls. ls ++ lines) h.lines ∙ ap (λ ls. lines_of rs ++ ls) (sym (append-nil lines)) ∙ sym (flat_map-append (λ r. r.lines) rs (routine name lines ∷ []));
-  functions = more ∙ ap (λ fs. fs ++ function_at (4 * length p.lines.items) name ∷ []) h.functions
-      ∙ ap (λ k. functions_from 0 rs ++ function_at (4 * k) name ∷ []) (ap length h.lines)
-      ∙ ap (λ k. functions_from 0 rs ++ function_at (4 * k) name ∷ []) (omega arith)
+  lines = grown ∙ ap (λ ls. ls ++ lines) h.lines ∙ ap (λ ls. lines_of_routines rs ++ ls) (sym (append-nil lines)) ∙ sym (flat_map-append (λ r. r.lines) rs (routine name lines ∷ []));
+  functions = more ∙ ap (λ fs. fs ++ function_at_offset (4 * length p.lines.items) name ∷ []) h.functions
+      ∙ ap (λ k. functions_behind_lines 0 rs ++ function_at_offset (4 * k) name ∷ []) (ap length h.lines)
+      ∙ ap (λ k. functions_behind_lines 0 rs ++ function_at_offset (4 * k) name ∷ []) (omega arith)
       ∙ sym (functions_from-append 0 rs (routine name lines ∷ []));
 }
 

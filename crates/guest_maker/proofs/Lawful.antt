@@ -14,7 +14,7 @@ use Rattle.guest_input.specs.declared.image.Image.{Image}
 use Rattle.guest_input.specs.declared.limits.TheConstants.{FUNCTIONS_MOST}
 use Rattle.guest_input.specs.Text.{Range, AreRanges, IsStartIn, bytes_before, bytes_of, flat_of, span_of, spans_of, no_span}
 use Rattle.guest_input.specs.Accepted.{IsImage, IsAscendingFrom, IsStarts, AllParts, starts_of, offsets_of}
-use Rattle.guest_maker.specs.Guest.{image_of, range_of}
+use Rattle.guest_maker.specs.Guest.{image_of_guest, range_of_text}
 
 pub record IsPages (text : List ℕ) : Type 0 where
   pub some : 0 < length text
@@ -104,7 +104,7 @@ text_lawful text h = record {
 }
 
 pub lawful_image : (text : List ℕ) (parts : List (ℕ × List ℕ)) (fs : List Function) → IsPages text → AreFunctions fs (length text) → length fs ≤ FUNCTIONS_MOST
-    → AllParts (span text ∷ []) parts → IsImage (image_of text parts fs)
+    → AllParts (span text ∷ []) parts → IsImage (image_of_guest text parts fs)
 lawful_image text parts fs pages functions few apart = record {
   text = subst (AreRanges (span text ∷ [])) (sym (append-nil text)) (text_lawful text pages);
   inside = inside text fs functions;
@@ -126,7 +126,7 @@ abbrev range : ℕ → List ℕ → Range
 range base bytes = record { base = base; bytes = bytes }
 
 -- the place and the bytes of one range say which it is
-pub one_range : (ranges : List Range) (text : List ℕ) → spans_of ranges ≡ span text ∷ [] → bytes_of ranges ≡ text → ranges ≡ range_of text ∷ []
+pub one_range : (ranges : List Range) (text : List ℕ) → spans_of ranges ≡ span text ∷ [] → bytes_of ranges ≡ text → ranges ≡ range_of_text text ∷ []
 one_range [] text spans bytes = absurd cc
 one_range (r ∷ []) text spans bytes =
     let place : r.base ≡ RAM_START = ap (λ (s : Span). s.start) (first (span_of r) (span text) [] [] spans) in

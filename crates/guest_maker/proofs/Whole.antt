@@ -6,17 +6,17 @@ use Rattle.std.proofs.lemmas.Bool.Decides.{nat_tests}
 use Rattle.fc_numbers.specs.declared.places.TheConstants.{RAM_START, RAM_MOST}
 use Rattle.guest_input.specs.declared.image.Function.{Function}
 use Rattle.guest_input.specs.Accepted.{IsImage, IsSetup, IsSetupFor, IsPartOf, is_apart}
-use Rattle.guest_maker.specs.Program.{program, lines_of}
+use Rattle.guest_maker.specs.Program.{program, lines_of_routines}
 use Rattle.guest_maker.specs.Hostile.{hostile_text, hostile_functions}
-use Rattle.guest_maker.specs.Guest.{image_of, guest_text, guest_functions, task_names, guest_image, guest_setup, hostile_image, hostile_setup}
+use Rattle.guest_maker.specs.Guest.{image_of_guest, guest_text, guest_functions, task_names, guest_image, guest_setup, hostile_image, hostile_setup}
 use Rattle.guest_maker.proofs.Lawful.{span, below, lawful_image}
 use Rattle.guest_maker.proofs.Made.{text_is_whole, program_stands, program_few}
 use Rattle.guest_maker.proofs.Hostiles.{hostile_pages, hostile_stand, hostile_few, length-hostile_text}
 
 pub image_same : (text its_text : List ℕ) (parts its_parts : List (ℕ × List ℕ)) (fs its_fs : List Function) → text ≡ its_text → parts ≡ its_parts → fs ≡ its_fs
-    → image_of text parts fs ≡ image_of its_text its_parts its_fs
+    → image_of_guest text parts fs ≡ image_of_guest its_text its_parts its_fs
 image_same text its_text parts its_parts fs its_fs a b c =
-    ap (λ t. image_of t parts fs) a ∙ ap (λ p. image_of its_text p fs) b ∙ ap (λ f. image_of its_text its_parts f) c
+    ap (λ t. image_of_guest t parts fs) a ∙ ap (λ p. image_of_guest its_text p fs) b ∙ ap (λ f. image_of_guest its_text its_parts f) c
 
 true_leb : (a b : ℕ) → a ≤ b → nat_le a b ≡ true
 true_leb a b h = grind (arith, nat_tests)

@@ -4,7 +4,7 @@ use Rattle.std.specs.Prelude.{flat_map, slice_get, All}
 use Rattle.std.specs.Int.{w32, to_le_bytes, from_le_bytes}
 use Rattle.std.proofs.lemmas.Nat.{from_le_bytes-to_le_bytes_4}
 use Rattle.std.proofs.lemmas.List.{append-nil, length-map}
-use Rattle.guest_maker.specs.Text.{word_at, word_bytes}
+use Rattle.guest_maker.specs.Text.{word_in_text, word_bytes}
 
 head_same : {A : Type 0} (x y : A) (xs ys : List A) → x ∷ xs ≡ y ∷ ys → (x ≡ y) × (xs ≡ ys)
 head_same x y xs ys e = (cc, cc)
@@ -28,7 +28,7 @@ word_there (w ∷ ws) rest (suc k) less =
     let more : 4 * suc k ≡ suc (suc (suc (suc (4 * k)))) = omega arith in
     ap (λ n. take 4 (drop n (word_bytes (w ∷ ws) ++ rest))) more ∙ word_there ws rest k (omega (arith, less))
 
-pub word_read : (ws : List ℕ) (rest : List ℕ) (k : ℕ) → All (λ w. w < 2 ^ 32) ws → k < length ws → word_at (word_bytes ws ++ rest) (4 * k) ≡ get_or ws k 0
+pub word_read : (ws : List ℕ) (rest : List ℕ) (k : ℕ) → All (λ w. w < 2 ^ 32) ws → k < length ws → word_in_text (word_bytes ws ++ rest) (4 * k) ≡ get_or ws k 0
 word_read ws rest k small less =
     let four : 4 * k + 4 - 4 * k ≡ 4 = omega arith in
     ap (λ n. from_le_bytes w32 (take n (drop (4 * k) (word_bytes ws ++ rest)))) four
@@ -37,6 +37,6 @@ word_read ws rest k small less =
 
 -- words that decode to instructions, read back from text that begins with their bytes
 pub read_back : {A : Type 0} (f : ℕ → Option A) (ws : List ℕ) (code : List A) (rest : List ℕ) → map f ws ≡ map Some code → All (λ w. w < 2 ^ 32) ws
-    → (k : ℕ) → k < length code → f (word_at (word_bytes ws ++ rest) (4 * k)) ≡ slice_get code k
+    → (k : ℕ) → k < length code → f (word_in_text (word_bytes ws ++ rest) (4 * k)) ≡ slice_get code k
 read_back f ws code rest means small k less =
     ap f (word_read ws rest k small (omega (arith, less, same_length f ws code means))) ∙ meaning f ws code k means less

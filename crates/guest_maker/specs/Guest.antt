@@ -11,33 +11,33 @@ use Rattle.guest_input.specs.declared.setup.Setup.{Setup}
 use Rattle.elf_read.specs.declared.parts.ElfParts.{ElfParts}
 use Rattle.elf_read.specs.Kernel.{image_with}
 use Rattle.guest_image.specs.Digest.{digest_of}
-use Rattle.guest_maker.specs.Program.{fixed, program, drawn_of, lines_of, functions_from}
-use Rattle.guest_maker.specs.Text.{number_of, offset_of, target_of, code_from, word_of, word_bytes, in_pages}
+use Rattle.guest_maker.specs.Program.{fixed, program, drawn_of, lines_of_routines, functions_behind_lines}
+use Rattle.guest_maker.specs.Text.{label_number, offset_of, target_of, code_from, encoded_word, word_bytes, in_pages}
 use Rattle.guest_maker.specs.Hostile.{hostile_text, hostile_functions}
 use Rattle.guest_maker.specs.declared.line.Label.TheVariants.{SwitchTo}
 
 -- ---- images of one range of text, which begins where RAM does and holds the first instruction at its start
 
-abbrev pub range_of : List ℕ → Range
-range_of text = record { base = RAM_START; bytes = text }
+abbrev pub range_of_text : List ℕ → Range
+range_of_text text = record { base = RAM_START; bytes = text }
 
 abbrev pub kernel_of : List ℕ → List (ℕ × List ℕ) → List Function → ElfParts
-kernel_of text parts functions = record { entry = RAM_START; ranges = range_of text ∷ []; parts = parts; functions = functions }
+kernel_of text parts functions = record { entry = RAM_START; ranges = range_of_text text ∷ []; parts = parts; functions = functions }
 
-abbrev pub image_of : List ℕ → List (ℕ × List ℕ) → List Function → Image
-image_of text parts functions = image_with (digest_of (kernel_of text parts functions)) (kernel_of text parts functions)
+abbrev pub image_of_guest : List ℕ → List (ℕ × List ℕ) → List Function → Image
+image_of_guest text parts functions = image_with (digest_of (kernel_of text parts functions)) (kernel_of text parts functions)
 
 -- ---- the guest of a number
 
 unfoldable pub guest_functions : ℕ → List Function
-guest_functions seed = functions_from 0 (program seed)
+guest_functions seed = functions_behind_lines 0 (program seed)
 
 -- its instructions, one after another
 unfoldable pub guest_code : ℕ → List Inst
-guest_code seed = code_from (target_of (guest_functions seed) (drawn_of seed)) 0 (lines_of (program seed))
+guest_code seed = code_from (target_of (guest_functions seed) (drawn_of seed)) 0 (lines_of_routines (program seed))
 
 unfoldable pub guest_text : ℕ → List ℕ
-guest_text seed = in_pages (word_bytes (map word_of (guest_code seed)))
+guest_text seed = in_pages (word_bytes (map encoded_word (guest_code seed)))
 
 -- the names of the two tasks of a vCPU, each 24 bytes behind its task
 abbrev pub names_at : ℕ → List (ℕ × List ℕ)
@@ -47,18 +47,18 @@ abbrev pub task_names : List (ℕ × List ℕ)
 task_names = names_at 0x80100000 ++ names_at 0x80140000
 
 abbrev pub guest_image : ℕ → Image
-guest_image seed = image_of (guest_text seed) task_names (guest_functions seed)
+guest_image seed = image_of_guest (guest_text seed) task_names (guest_functions seed)
 
 -- the kernel switches tasks in `switch_to`, which is number 2 of its functions
-abbrev pub hook_at : Start
-hook_at = record { range = 0; offset = offset_of (functions_from 0 fixed) 2 }
+abbrev pub switch_to_start : Start
+switch_to_start = record { range = 0; offset = offset_of (functions_behind_lines 0 fixed) 2 }
 
 abbrev pub guest_setup : Setup
 guest_setup = record {
   vcpus = 2;
   ram = 2097152;
   steps = 8000;
-  hook = Some hook_at;
+  hook = Some switch_to_start;
   name_at = 24;
   start = Some (codes "red");
   events = [];
@@ -68,7 +68,7 @@ guest_setup = record {
 -- ---- the hostile guest of a number
 
 abbrev pub hostile_image : ℕ → Image
-hostile_image seed = image_of (hostile_text seed) [] (hostile_functions seed)
+hostile_image seed = image_of_guest (hostile_text seed) [] (hostile_functions seed)
 
 abbrev pub hostile_setup : Setup
 hostile_setup = record {

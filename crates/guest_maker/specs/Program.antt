@@ -11,7 +11,7 @@ use Rattle.guest_maker.specs.declared.program.Drawn.{Drawn}
 use Rattle.guest_maker.specs.declared.program.Program.{Program}
 use Rattle.guest_maker.specs.declared.program.TheConstants.{NUMBERED}
 use Rattle.guest_maker.specs.declared.programs.TheConstants.{BOOT, TRAP, SWITCH_TO, RED, BLUE, ENTER, LEAVE, RA, A2}
-use Rattle.guest_maker.specs.Generator.{next, answer, after}
+use Rattle.guest_maker.specs.Generator.{generator_next, answer, generator_after}
 
 -- a function: its name and its lines
 pub record Routine : Type 0 where
@@ -30,17 +30,17 @@ fixed = record { name = codes "boot"; lines = BOOT }
 -- so many instructions without use, each with a number of its own below 2,048
 abbrev pub idle : ℕ → ℕ → List Line
 idle zero s = []
-idle (suc n) s = idle n s ++ Plain (Addi A2 A2 (pos (answer (after (suc n) s) % 2048))) ∷ []
+idle (suc n) s = idle n s ++ Plain (Addi A2 A2 (pos (answer (generator_after (suc n) s) % 2048))) ∷ []
 
 -- how many there are: one to four
 abbrev pub idle_count : ℕ → ℕ
-idle_count s = 1 + answer (next s) % 4
+idle_count s = 1 + answer (generator_next s) % 4
 
 unfoldable pub idle_lines : ℕ → List Line
-idle_lines s = idle (idle_count s) (next s)
+idle_lines s = idle (idle_count s) (generator_next s)
 
 unfoldable pub behind_idle : ℕ → ℕ
-behind_idle s = after (idle_count s) (next s)
+behind_idle s = generator_after (idle_count s) (generator_next s)
 
 -- all functions but the last may call
 abbrev pub may_call : ℕ → Bool
@@ -48,17 +48,17 @@ may_call k = nat_lt k (NUMBERED - 1)
 
 -- a function that may call does so unless a multiple of three is drawn
 abbrev pub calls : ℕ → ℕ → Bool
-calls k s = may_call k && not (answer (next s) % 3 == 0)
+calls k s = may_call k && not (answer (generator_next s) % 3 == 0)
 
 -- the function that it calls is one of the eight behind it, or of those that there are
 abbrev pub callee : ℕ → ℕ → ℕ
-callee k s = k + 1 + answer (next s) % min 8 (NUMBERED - 1 - k)
+callee k s = k + 1 + answer (generator_next s) % min 8 (NUMBERED - 1 - k)
 
 unfoldable pub call_lines : ℕ → ℕ → List Line
-call_lines k s = if calls k s then Jump RA (Numbered (callee k (next s))) ∷ [] else []
+call_lines k s = if calls k s then Jump RA (Numbered (callee k (generator_next s))) ∷ [] else []
 
 unfoldable pub behind_call : ℕ → ℕ → ℕ
-behind_call k s = if calls k s then next (next s) else if may_call k then next s else s
+behind_call k s = if calls k s then generator_next (generator_next s) else if may_call k then generator_next s else s
 
 unfoldable pub drawn_lines : ℕ → ℕ → List Line
 drawn_lines k s = ENTER ++ idle_lines s ++ call_lines k (behind_idle s) ++ LEAVE
@@ -82,27 +82,27 @@ numbered (suc n) s = numbered n s ++ drawn_routine n (state_at n s) ∷ []
 
 -- the four functions that the tasks call are drawn first
 abbrev pub drawn_of : ℕ → Drawn
-drawn_of s = record { first = answer (after 1 s) % NUMBERED; second = answer (after 2 s) % NUMBERED; third = answer (after 3 s) % NUMBERED; fourth = answer (after 4 s) % NUMBERED }
+drawn_of s = record { first = answer (generator_after 1 s) % NUMBERED; second = answer (generator_after 2 s) % NUMBERED; third = answer (generator_after 3 s) % NUMBERED; fourth = answer (generator_after 4 s) % NUMBERED }
 
 -- the functions of the guest of a number, in the order in which they stand
 unfoldable pub program : ℕ → List Routine
-program seed = fixed ++ numbered NUMBERED (after 4 seed)
+program seed = fixed ++ numbered NUMBERED (generator_after 4 seed)
 
 -- ---- where functions stand
 
 -- the lines of all, one after another
-abbrev pub lines_of : List Routine → List Line
-lines_of rs = flat_map (λ r. r.lines) rs
+abbrev pub lines_of_routines : List Routine → List Line
+lines_of_routines rs = flat_map (λ r. r.lines) rs
 
-abbrev pub function_at : ℕ → List ℕ → Function
-function_at offset name = record { at = record { range = 0; offset = offset }; name = name }
+abbrev pub function_at_offset : ℕ → List ℕ → Function
+function_at_offset offset name = record { at = record { range = 0; offset = offset }; name = name }
 
 -- functions that stand behind so many lines, of four bytes each
-abbrev pub functions_from : ℕ → List Routine → List Function
-functions_from before [] = []
-functions_from before (r ∷ rs) = function_at (4 * before) r.name ∷ functions_from (before + length r.lines) rs
+abbrev pub functions_behind_lines : ℕ → List Routine → List Function
+functions_behind_lines before [] = []
+functions_behind_lines before (r ∷ rs) = function_at_offset (4 * before) r.name ∷ functions_behind_lines (before + length r.lines) rs
 
 -- a program of these functions
 pub record IsProgram (p : Program) (rs : List Routine) : Type 0 where
-  pub lines : p.lines.items ≡ lines_of rs
-  pub functions : p.functions ≡ functions_from 0 rs
+  pub lines : p.lines.items ≡ lines_of_routines rs
+  pub functions : p.functions ≡ functions_behind_lines 0 rs

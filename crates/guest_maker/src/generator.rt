@@ -1,7 +1,7 @@
 //! The numbers from which a guest is made.
 
 ghost use Rattle.std.specs.Prelude.{◌≡◌, ◌<◌, ◌^◌};
-ghost use Rattle.guest_maker.specs.Generator.{answer, next};
+ghost use Rattle.guest_maker.specs.Generator.{answer, generator_next};
 
 use std::marker::Model;
 
@@ -38,7 +38,7 @@ impl Generator {
 
     /// The next answer, below 2^31.
     pub(crate) fn draw(&mut self) -> u32
-        ensures state { self.new ≡ next self.old }
+        ensures state { self.new ≡ generator_next self.old }
         ensures value { result ≡ answer self.new }
         ensures small { result < 2 ^ 31 }
     {

@@ -3,7 +3,7 @@
 ghost use Rattle.std.specs.Prelude.{◌≡◌, ◌≤◌, ◌<◌, ◌+◌, ◌*◌, ◌%◌, ◌++◌, [], ◌∷◌, length, codes, vec_len, true, Some, IfOk, OnOk};
 ghost use Rattle.fc_numbers.specs.declared.spans.TheConstants.{TEXT_MOST};
 ghost use Rattle.fc_numbers.specs.Names.{is_app_name};
-ghost use Rattle.guest_maker.specs.Guest.{image_of, names_at, task_names, guest_setup, hostile_setup};
+ghost use Rattle.guest_maker.specs.Guest.{image_of_guest, names_at, task_names, guest_setup, hostile_setup};
 
 use crate::programs::{BOOT, TRAP};
 use crate::text::WORD;
@@ -45,7 +45,7 @@ pub(crate) fn image_of(
     requires some { 0 < vec_len text }
     requires whole { vec_len text % 4096 ≡ 0 }
     requires most { vec_len text ≤ TEXT_MOST }
-    ensures { IfOk result (λ image. image ≡ image_of text.items parts functions) }
+    ensures { IfOk result (λ image. image ≡ image_of_guest text.items parts functions) }
 {
     let mut spans = Spans::new();
     spans.push(Span {

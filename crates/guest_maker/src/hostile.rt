@@ -2,8 +2,8 @@
 
 ghost use Rattle.std.specs.Prelude.{◌≡◌, ◌≤◌, ◌<◌, ◌+◌, ◌++◌, [], ◌∷◌, length, if◌then◌else◌, codes, IfOk, OnOk};
 ghost use Rattle.std.specs.Int.{w16, to_le_bytes};
-ghost use Rattle.guest_maker.specs.Hostile.{half_of, behind_half, starts_at, behind, hostile_function, hostile_text, hostile_functions};
-ghost use Rattle.guest_maker.specs.Program.{function_at};
+ghost use Rattle.guest_maker.specs.Hostile.{drawn_half, behind_half, starts_at, behind_half_and_start, hostile_function, hostile_text, hostile_functions};
+ghost use Rattle.guest_maker.specs.Program.{function_at_offset};
 
 use crate::generator::Generator;
 use fc_numbers::memory::NoMemory;
@@ -39,7 +39,7 @@ pub(crate) struct Hostile {
 
 /// Draws a halfword.
 fn draw_half(generator: &mut Generator) -> u16
-    ensures value { result ≡ half_of generator.old }
+    ensures value { result ≡ drawn_half generator.old }
     ensures state { generator.new ≡ behind_half generator.old }
 {
     if generator.draw() % ZEROS == 0 {
@@ -69,9 +69,9 @@ fn push_half(
     generator: &mut Generator,
     number: u16,
 ) -> Result<(), NoMemory>
-    ensures text { OnOk result (made.new.text.items ≡ made.old.text.items ++ to_le_bytes w16 (half_of generator.old)) }
+    ensures text { OnOk result (made.new.text.items ≡ made.old.text.items ++ to_le_bytes w16 (drawn_half generator.old)) }
     ensures functions { OnOk result (made.new.functions ≡ (if starts_at generator.old then made.old.functions ++ hostile_function number ∷ [] else made.old.functions)) }
-    ensures state { OnOk result (generator.new ≡ behind generator.old) }
+    ensures state { OnOk result (generator.new ≡ behind_half_and_start generator.old) }
 {
     let half = draw_half(generator);
     made.text.extend_from_slice(&half.to_le_bytes())?;
@@ -84,7 +84,7 @@ fn push_half(
 /// The first function and the trap handler.
 fn head(alloc: Global) -> Result<Hostile, NoMemory>
     ensures text { IfOk result (λ made. made.text.items ≡ HEAD) }
-    ensures functions { IfOk result (λ made. made.functions ≡ function_at 0 (codes "boot") ∷ []) }
+    ensures functions { IfOk result (λ made. made.functions ≡ function_at_offset 0 (codes "boot") ∷ []) }
 {
     let mut functions = Items::new(alloc);
     functions.push(Function {

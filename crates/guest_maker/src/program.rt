@@ -1,7 +1,7 @@
 //! The program of the guest of a number: its functions, one behind the other.
 
 ghost use Rattle.std.specs.Prelude.{◌≡◌, ◌≤◌, ◌<◌, ◌+◌, ◌*◌, ◌++◌, [], ◌∷◌, length, vec_len, codes, decimal, IfOk, OnOk, List};
-ghost use Rattle.guest_maker.specs.Generator.{after, next};
+ghost use Rattle.guest_maker.specs.Generator.{generator_after, generator_next};
 ghost use Rattle.guest_maker.specs.Program.{Routine, IsProgram, idle, idle_count, idle_lines, behind_idle, call_lines, behind_call, drawn_lines, drawn_routine, behind_routine, state_at, numbered, drawn_of, fixed, program};
 
 use crate::generator::Generator;
@@ -187,7 +187,7 @@ fn fixed_program(alloc: Global) -> Result<Program, NoMemory>
 /// Draws the functions that the tasks call.
 fn draw_called(generator: &mut Generator) -> Drawn
     ensures drawn { result ≡ drawn_of generator.old }
-    ensures state { generator.new ≡ after 4 generator.old }
+    ensures state { generator.new ≡ generator_after 4 generator.old }
 {
     let first = (generator.draw() % NUMBERED) as u8;
     let second = (generator.draw() % NUMBERED) as u8;

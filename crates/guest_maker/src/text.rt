@@ -4,7 +4,7 @@ ghost use Rattle.std.specs.Prelude.{◌≡◌, ◌≤◌, ◌<◌, ◌^◌, ◌+
 ghost use Rattle.rv_decode.specs.Rows.{decode_of};
 ghost use Rattle.rv_words.specs.Words.{encode_of};
 ghost use Rattle.guest_maker.specs.declared.program.TheConstants.{LINES_MOST};
-ghost use Rattle.guest_maker.specs.Text.{number_of, offset_of, target_of, distance, resolved, code_from, AllFit, word_of, word_bytes, in_pages};
+ghost use Rattle.guest_maker.specs.Text.{label_number, offset_of, target_of, distance, instruction_of_line, code_from, AllFit, encoded_word, word_bytes, in_pages};
 
 use crate::line::{Label, Line};
 use crate::program::Drawn;
@@ -23,7 +23,7 @@ pub(crate) const WORD: u32 = 4;
 
 /// The position of a function in the program.
 fn number_of(drawn: &Drawn, to: Label) -> usize
-    ensures { result ≡ number_of drawn.now to }
+    ensures { result ≡ label_number drawn.now to }
 {
     match to {
         Label::Trap => 1,
@@ -59,7 +59,7 @@ fn distance(functions: &[Function], drawn: &Drawn, at: u32, to: Label) -> i64
 
 /// The instruction of a line at an offset.
 fn resolved(functions: &[Function], drawn: &Drawn, at: u32, line: &Line) -> Inst
-    ensures { result ≡ resolved (target_of functions.now drawn.now) at line.now }
+    ensures { result ≡ instruction_of_line (target_of functions.now drawn.now) at line.now }
 {
     match *line {
         Line::Plain(inst) => inst,
@@ -80,9 +80,9 @@ fn resolved(functions: &[Function], drawn: &Drawn, at: u32, line: &Line) -> Inst
 
 /// The word of a line at an offset.
 fn word(functions: &[Function], drawn: &Drawn, at: u32, line: &Line) -> u32
-    requires { IsSome (encode_of (resolved (target_of functions.now drawn.now) at line.now)) }
-    ensures value { result ≡ word_of (resolved (target_of functions.now drawn.now) at line.now) }
-    ensures means { decode_of result ≡ Some (resolved (target_of functions.now drawn.now) at line.now) }
+    requires { IsSome (encode_of (instruction_of_line (target_of functions.now drawn.now) at line.now)) }
+    ensures value { result ≡ encoded_word (instruction_of_line (target_of functions.now drawn.now) at line.now) }
+    ensures means { decode_of result ≡ Some (instruction_of_line (target_of functions.now drawn.now) at line.now) }
 {
     encode(&resolved(functions, drawn, at, line)).unwrap()
 }
@@ -96,7 +96,7 @@ pub(crate) fn words(
 ) -> Result<Vec<u32>, NoMemory>
     requires few { length lines.now ≤ LINES_MOST }
     requires fit { AllFit (target_of functions.now drawn.now) 0 lines.now }
-    ensures value { IfOk result (λ words. words.items ≡ map word_of (code_from (target_of functions.now drawn.now) 0 lines.now)) }
+    ensures value { IfOk result (λ words. words.items ≡ map encoded_word (code_from (target_of functions.now drawn.now) 0 lines.now)) }
     ensures means { IfOk result (λ words. map decode_of words.items ≡ map Some (code_from (target_of functions.now drawn.now) 0 lines.now)) }
     ensures small { IfOk result (λ words. All (λ word. word < 2 ^ 32) words.items) }
 {

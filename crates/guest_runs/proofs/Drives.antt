@@ -6,13 +6,14 @@ use Rattle.std.specs.List.{flat_map}
 use Rattle.trace_file.specs.Trace.{Told}
 use Rattle.guest_board.specs.Board.{State}
 use Rattle.view_store.specs.Paged.{PagedView}
-use Rattle.run_evidence.specs.Config.{Config, IsConfig, IsLawful, full}
+use Rattle.run_evidence.specs.Config.{Config, IsConfig, IsLawfulSchedule, full}
 use Rattle.run_evidence.specs.Evidence.{IsAllowed}
 use Rattle.run_evidence.specs.Sound.{IsSoundView}
 use Rattle.run_trace.specs.Told.{IsToldBy, IsInRange}
 use Rattle.run_trace.specs.Sound.{IsRun, RunsHaveSoundTraces, TracesOfRunsAreLawful}
 use Rattle.vcpu_core.specs.First.{first_world}
-use Rattle.vcpu_core.specs.World.{World, logs_of, blank_paged}
+use Rattle.vcpu_core.specs.World.{World, blank_paged}
+use Rattle.run_evidence.specs.Growing.{logs_of}
 use Rattle.vcpu_core.specs.Sound.{IsSound}
 use Rattle.guest_runs.specs.Driven.{IsDriven}
 use Rattle.guest_runs.specs.Engine.{RunsOut}
@@ -30,7 +31,7 @@ module _ (sounds : EveryOrderIsSound) (goes_on : RunsGoOn) (traced : RunsHaveSou
   run = record {
     config = ok;
     state = s.state ∙ ap (full c) (sym s.schedule);
-    lawful = subst (IsLawful c) (sym s.schedule) s.lawful;
+    lawful = subst (IsLawfulSchedule c) (sym s.schedule) s.lawful;
     numbered = s.numbered;
     each = λ v d within. subst (λ h. IsSoundView c h v (slice_index_or w.paged_views v d)) (sym s.schedule)
         (subst (IsSoundView c (steps sounds goes_on c ok script w r) v) (get_or_default w.paged_views v blank_paged d within) (s.views v within));

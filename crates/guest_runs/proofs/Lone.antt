@@ -2,14 +2,14 @@
 use Rattle.std.proofs.Common.{◌≡◌, ℕ, ◌<◌, Some, None, List, [], length, ◌∙◌, sym, ap, subst}
 use Rattle.std.specs.Prelude.{All}
 use Rattle.fc_numbers.specs.declared.machine.End.{End}
-use Rattle.run_evidence.specs.Config.{Config, IsConfig, groups_in}
+use Rattle.run_evidence.specs.Config.{Config, IsConfig, image_groups}
 use Rattle.vcpu_core.specs.First.{first_world}
 use Rattle.vcpu_core.specs.World.{World, go_all, erased, paged_in}
 use Rattle.vcpu_core.specs.Sound.{IsSound}
 use Rattle.vcpu_core.specs.Missed.{HasEnded, FirstLogsAllMisses, first_view}
 use Rattle.guest_board.specs.Board.{State}
 use Rattle.guest_runs.specs.Alone.{IsRunOf}
-use Rattle.guest_runs.specs.Engine.{events_of, IsIdle, RunsOut}
+use Rattle.guest_runs.specs.Engine.{events_of_script, IsIdle, RunsOut}
 use Rattle.guest_runs.specs.Log.{IsPrintable, log_text}
 use Rattle.guest_runs.proofs.Ended.{EveryOrderIsSound}
 use Rattle.guest_runs.proofs.Printed.{printed}
@@ -25,7 +25,7 @@ FirstLogs = (c : Config) → IsConfig c → c.setup.vcpus ≡ 1 → c.setup.hook
 
 module _ (sounds : EveryOrderIsSound) (goes_on : RunsGoOn) (c : Config) (ok : IsConfig c) (script : List ℕ) (w : World) (r : RunsOut script c.setup.vcpus (first_world c) w) where
   abbrev pub events : List ℕ
-  events = events_of script c.setup.vcpus r.rounds
+  events = events_of_script script c.setup.vcpus r.rounds
 
   abbrev pub steps : List ℕ
   steps = erased (first_world c) events
@@ -50,7 +50,7 @@ module _ (sounds : EveryOrderIsSound) (goes_on : RunsGoOn) (logs : FirstLogs) (c
   pub view-within : first_view c < length w.paged_views
   view-within = missed.within
 
-  pub entries-printable : All (IsPrintable (groups_in c)) (paged_in w.paged_views (first_view c)).log
+  pub entries-printable : All (IsPrintable (image_groups c)) (paged_in w.paged_views (first_view c)).log
   entries-printable = printed c ok alone_steps _ (alone.views (first_view c) missed.within).justified
 
   pub lone-run : (end : End) (text : List ℕ) → w.board.state.end ≡ Some end

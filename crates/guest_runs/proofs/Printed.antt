@@ -6,7 +6,7 @@ use Rattle.std.proofs.lemmas.List.Elements.{All-append, All-cons}
 use Rattle.fc_numbers.specs.declared.machine.Mode.{Mode}
 use Rattle.fc_numbers.specs.declared.machine.Access.TheVariants.{Fetch}
 use Rattle.fc_numbers.specs.Numbers.{get_reg}
-use Rattle.function_table.specs.Groups.{in_text}
+use Rattle.function_table.specs.Groups.{in_groups_text}
 use Rattle.function_table.proofs.GroupLemmas.{group-below}
 use Rattle.guest_ram.specs.Ram.{Ram, is_text}
 use Rattle.rv_csr.specs.Csrs.{Csrs}
@@ -14,11 +14,11 @@ use Rattle.chain_log.specs.declared.entry.LogEntry.{LogEntry}
 use Rattle.chain_log.specs.declared.entry.TheConstants.{CHAIN_MOST}
 use Rattle.chain_log.specs.declared.chain.Frame.{Frame}
 use Rattle.fc_numbers.specs.declared.regs.TheConstants.{RA, FP}
-use Rattle.chain_log.specs.Chain.{chain_of, frames_from, places_of, frame_at, by_words, framed, word_at, below, code_at}
+use Rattle.chain_log.specs.Chain.{chain_of, frame_places_from, places_of, frame_at, by_words, framed, doubleword_at, address_below, code_at}
 use Rattle.sv39_walk.specs.Walk.{place_for}
 use Rattle.guest_board.specs.Board.{State, vcpu_of}
 use Rattle.run_evidence.proofs.Steps.{next-text}
-use Rattle.run_evidence.specs.Config.{Config, IsConfig, groups_in, full, full_at}
+use Rattle.run_evidence.specs.Config.{Config, IsConfig, image_groups, full, full_at}
 use Rattle.run_evidence.specs.Evidence.{IsJustified, AllJustified, chain_in}
 use Rattle.vcpu_core.proofs.Run.{full-texted}
 use Rattle.guest_runs.specs.Log.{IsPrintable}
@@ -58,8 +58,8 @@ words-inside ram csr mode (Some ra) (Some up) f e = framed-inside ram up (code_a
 frame-inside : (ram : Ram) (csr : Csrs) (mode : Mode) (f : ℕ) → IsFrameInside ram (frame_at ram csr mode f)
 unfolding frame_at
 frame-inside ram csr mode f =
-    elim (f % 8 == 0) as (λ b. IsFrameInside ram (if b then by_words ram csr mode (word_at ram csr mode (below f 8)) (word_at ram csr mode (below f 16)) else None)) [
-      | true ↦ words-inside ram csr mode (word_at ram csr mode (below f 8)) (word_at ram csr mode (below f 16))
+    elim (f % 8 == 0) as (λ b. IsFrameInside ram (if b then by_words ram csr mode (doubleword_at ram csr mode (address_below f 8)) (doubleword_at ram csr mode (address_below f 16)) else None)) [
+      | true ↦ words-inside ram csr mode (doubleword_at ram csr mode (address_below f 8)) (doubleword_at ram csr mode (address_below f 16))
       | false ↦ λ g e. absurd (cc e)
     ]
 
@@ -74,10 +74,10 @@ places-inside ram f rest (Some frame) k more =
       | false ↦ all-none (λ p. is_text ram p ≡ true)
     ])
 
-frames-inside : (ram : Ram) (csr : Csrs) (mode : Mode) (n f : ℕ) → All (λ p. is_text ram p ≡ true) (frames_from ram csr mode n f)
-unfolding frames_from
+frames-inside : (ram : Ram) (csr : Csrs) (mode : Mode) (n f : ℕ) → All (λ p. is_text ram p ≡ true) (frame_places_from ram csr mode n f)
+unfolding frame_places_from
 frames-inside ram csr mode zero f = all-none (λ p. is_text ram p ≡ true)
-frames-inside ram csr mode (suc n) f = places-inside ram f (frames_from ram csr mode n) (frame_at ram csr mode f) (frame-inside ram csr mode f) (frames-inside ram csr mode n)
+frames-inside ram csr mode (suc n) f = places-inside ram f (frame_places_from ram csr mode n) (frame_at ram csr mode f) (frame-inside ram csr mode f) (frames-inside ram csr mode n)
 
 first-inside : (ram : Ram) (o : Option ℕ) → IsInside ram o → All (λ p. is_text ram p ≡ true) (option_to_list o)
 first-inside ram None k = all-none (λ p. is_text ram p ≡ true)
@@ -91,20 +91,20 @@ chain-inside ram csr mode regs =
     (frames-inside ram csr mode (CHAIN_MOST - length (option_to_list (code_at ram csr mode (get_reg regs RA)))) (get_reg regs FP))
 
 -- a place is in the memory's text where it is in the text's groups, in every state of a run
-pub text-of-run : (c : Config) → IsConfig c → (schedule : List ℕ) (p : ℕ) → is_text (full c schedule).ram p ≡ in_text (groups_in c) p
+pub text-of-run : (c : Config) → IsConfig c → (schedule : List ℕ) (p : ℕ) → is_text (full c schedule).ram p ≡ in_groups_text (image_groups c) p
 text-of-run c ok schedule p = rw ((full-texted c schedule ok).has.same) refl
 
-printed-one : (c : Config) → IsConfig c → (schedule : List ℕ) (e : LogEntry) → IsJustified c schedule e → IsPrintable (groups_in c) e
+printed-one : (c : Config) → IsConfig c → (schedule : List ℕ) (e : LogEntry) → IsJustified c schedule e → IsPrintable (image_groups c) e
 printed-one c ok schedule e j =
     let s : State = full_at c schedule e.at in
-    let same : (p : ℕ) → is_text s.ram p ≡ in_text (groups_in c) p = text-of-run c ok (take e.at schedule) in
+    let same : (p : ℕ) → is_text s.ram p ≡ in_groups_text (image_groups c) p = text-of-run c ok (take e.at schedule) in
     let chain : All (λ p. is_text s.ram p ≡ true) (chain_in s e.vcpu) = chain-inside s.ram (vcpu_of s e.vcpu).csr (vcpu_of s e.vcpu).mode (vcpu_of s e.vcpu).regs in
     record {
-      group = rw j.group (group-below (groups_in c) e.pc);
+      group = rw j.group (group-below (image_groups c) e.pc);
       pc = sym (same e.pc) ∙ next-text s e.vcpu e.pc j.next;
       chain = rw j.chain (λ k d within. sym (same (slice_index_or (chain_in s e.vcpu) k d)) ∙ chain k d within);
     }
 
-pub printed : (c : Config) → IsConfig c → (schedule : List ℕ) (log : List LogEntry) → AllJustified c schedule log → All (IsPrintable (groups_in c)) log
-printed c ok schedule [] all = all-none (IsPrintable (groups_in c))
-printed c ok schedule (e ∷ es) all = All-cons (IsPrintable (groups_in c)) e es (printed-one c ok schedule e all.0) (printed c ok schedule es all.1)
+pub printed : (c : Config) → IsConfig c → (schedule : List ℕ) (log : List LogEntry) → AllJustified c schedule log → All (IsPrintable (image_groups c)) log
+printed c ok schedule [] all = all-none (IsPrintable (image_groups c))
+printed c ok schedule (e ∷ es) all = All-cons (IsPrintable (image_groups c)) e es (printed-one c ok schedule e all.0) (printed c ok schedule es all.1)

@@ -5,7 +5,7 @@ use Rattle.std.proofs.lemmas.Bool.Decides.{nat_tests}
 use Rattle.vcpu_core.specs.World.{World, go_all, go_of, went_of}
 use Rattle.vcpu_core.specs.Waits.{all_left}
 use Rattle.vcpu_core.specs.declared.lane.Went.TheVariants.{Over}
-use Rattle.guest_runs.specs.Engine.{round_of, rounds_of, events_of}
+use Rattle.guest_runs.specs.Engine.{round_of, rounds_of, events_of_script}
 use Rattle.guest_runs.proofs.Events.{go_all-append, go_all-more, over_stays, range-more}
 
 -- the events of the vCPUs below i led here; where none of them was one, nothing has changed
@@ -51,7 +51,7 @@ went-on first now new went i r falls gone =
     }
 
 -- one more round behind a script
-pub one-round : (w : World) (script : List ℕ) (vcpus rounds : ℕ) → go_all w (events_of script vcpus (suc rounds)) ≡ go_all (go_all w (events_of script vcpus rounds)) (round_of vcpus)
+pub one-round : (w : World) (script : List ℕ) (vcpus rounds : ℕ) → go_all w (events_of_script script vcpus (suc rounds)) ≡ go_all (go_all w (events_of_script script vcpus rounds)) (round_of vcpus)
 one-round w script vcpus rounds =
-    let joined : events_of script vcpus (suc rounds) ≡ events_of script vcpus rounds ++ round_of vcpus = sym (append_assoc script (rounds_of vcpus rounds) (round_of vcpus)) in
-    ap (go_all w) joined ∙ go_all-append w (events_of script vcpus rounds) (round_of vcpus)
+    let joined : events_of_script script vcpus (suc rounds) ≡ events_of_script script vcpus rounds ++ round_of vcpus = sym (append_assoc script (rounds_of vcpus rounds) (round_of vcpus)) in
+    ap (go_all w) joined ∙ go_all-append w (events_of_script script vcpus rounds) (round_of vcpus)

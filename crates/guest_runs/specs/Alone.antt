@@ -3,7 +3,7 @@
 use Rattle.std.specs.Prelude.{◌≡◌, ℕ, Some, List}
 use Rattle.fc_numbers.specs.declared.machine.End.{End}
 use Rattle.chain_log.specs.declared.entry.LogEntry.{LogEntry}
-use Rattle.run_evidence.specs.Config.{Config, full, IsLawful}
+use Rattle.run_evidence.specs.Config.{Config, full, IsLawfulSchedule}
 use Rattle.run_evidence.specs.Evidence.{AllJustified}
 use Rattle.run_evidence.specs.Misses.{misses, steps_of}
 use Rattle.guest_runs.specs.Log.{log_text}
@@ -17,7 +17,7 @@ pub record IsLogOf (c : Config) (schedule : List ℕ) (text : List ℕ) : Type 0
 
 -- each step of the schedule exists, and the full kernel's run by it has this end and this console
 pub record IsRunOf (c : Config) (schedule : List ℕ) (end : End) (console log : List ℕ) : Type 0 where
-  pub lawful : IsLawful c schedule
+  pub lawful : IsLawfulSchedule c schedule
   pub ended : (full c schedule).end ≡ Some end
   pub wrote : (full c schedule).console ≡ console
   pub logged : IsLogOf c schedule log

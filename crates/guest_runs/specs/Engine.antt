@@ -15,8 +15,8 @@ rounds_of vcpus zero = []
 rounds_of vcpus (suc n) = rounds_of vcpus n ++ round_of vcpus
 
 -- the events of a script, and then so many rounds
-abbrev pub events_of : List ℕ → ℕ → ℕ → List ℕ
-events_of script vcpus rounds = script ++ rounds_of vcpus rounds
+abbrev pub events_of_script : List ℕ → ℕ → ℕ → List ℕ
+events_of_script script vcpus rounds = script ++ rounds_of vcpus rounds
 
 -- no vCPU may step
 abbrev pub IsIdle : ℕ → World → Type 0
@@ -25,5 +25,5 @@ IsIdle vcpus w = (i : ℕ) → i < vcpus → went_of w i ≡ Over
 -- the script and some rounds lead from one world to another, in which no vCPU may step
 pub record RunsOut (script : List ℕ) (vcpus : ℕ) (before after : World) : Type 0 where
   pub rounds : ℕ
-  pub leads : after ≡ go_all before (events_of script vcpus rounds)
+  pub leads : after ≡ go_all before (events_of_script script vcpus rounds)
   pub idle : IsIdle vcpus after

@@ -3,7 +3,7 @@
 ghost use Rattle.std.specs.Prelude.{◌≡◌, IfOk};
 ghost use Rattle.guest_input.specs.Accepted.{IsImage, IsSetupFor};
 ghost use Rattle.function_table.specs.Groups.{groups_of};
-ghost use Rattle.trace_file.specs.Trace.{told};
+ghost use Rattle.trace_file.specs.Trace.{told_of_trace};
 ghost use Rattle.view_file.specs.Fits.{IsViewsFor};
 ghost use Rattle.guest_runs.specs.Driven.{IsDriven};
 
@@ -43,7 +43,7 @@ pub fn drive(
     requires table { table.now ≡ groups_of image.now }
     requires setup { IsSetupFor image.now setup.now }
     requires views { IsViewsFor views.now image.now }
-    ensures { IfOk result (λ driven. IsDriven (record { image = image.now; setup = setup.now; views = views.now }) script.now (told driven.trace) driven.console.items) }
+    ensures { IfOk result (λ driven. IsDriven (record { image = image.now; setup = setup.now; views = views.now }) script.now (told_of_trace driven.trace) driven.console.items) }
 {
     every_order_is_sound();
     idle_runs_have_ended();

@@ -3,7 +3,7 @@
 ghost use Rattle.std.specs.Prelude.{◌≡◌, All, IfOk};
 ghost use Rattle.guest_input.specs.Accepted.{IsImage};
 ghost use Rattle.function_table.specs.Groups.{groups_of};
-ghost use Rattle.guest_runs.specs.Log.{IsPrintable, app_of, log_text};
+ghost use Rattle.guest_runs.specs.Log.{IsPrintable, app_name_of_view, log_text};
 
 use chain_log::entry::LogEntry;
 use chain_log::line::print_entry;
@@ -16,7 +16,7 @@ use view_file::views::Views;
 
 /// The name of the app whose view this is; empty for the full view.
 fn app_name(views: &Views, view: ViewNo) -> &[u8]
-    ensures { result.now ≡ app_of views.now view }
+    ensures { result.now ≡ app_name_of_view views.now view }
 {
     if view.0 == 0 {
         return b"";

@@ -22,8 +22,8 @@ abbrev pub whole_of : Data → Option ℕ
 whole_of d = option_and_then as_u64 (as_number d)
 
 -- the bytes of a string
-abbrev pub text_of : Data → Option (List ℕ)
-text_of d = as_str d
+abbrev pub string_of : Data → Option (List ℕ)
+string_of d = as_str d
 
 abbrev pub list_of : Items → List Data
 list_of no_items = []

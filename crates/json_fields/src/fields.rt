@@ -3,7 +3,7 @@
 ghost use Rattle.std.specs.Prelude.{◌≡◌, option_map, map, List, ℕ};
 ghost use Rattle.serde_json.specs.View.{view};
 ghost use Rattle.serde_json.specs.Find.{get};
-ghost use Rattle.json_fields.specs.Fields.{whole_of, text_of, array_of, pair_of, triple_of, is_object, has_only_keys, is_null, is_among};
+ghost use Rattle.json_fields.specs.Fields.{whole_of, string_of, array_of, pair_of, triple_of, is_object, has_only_keys, is_null, is_among};
 
 use serde_json::Value;
 
@@ -37,7 +37,7 @@ pub fn whole(value: &Value) -> Option<u64>
 
 /// The text that the value is.
 pub fn text(value: &Value) -> Option<&str>
-    ensures { option_map (λ text. text.now) result ≡ text_of (view value.now) }
+    ensures { option_map (λ text. text.now) result ≡ string_of (view value.now) }
 {
     value.as_str()
 }

@@ -5,7 +5,7 @@ use Rattle.std.specs.List.{filter, flat_map, list_all, list_any, slice_get}
 use Rattle.std.proofs.lemmas.Bool.{and_from, lt-ltb}
 use Rattle.serde_json.specs.Data.{Data}
 use Rattle.serde_json.specs.Find.{get}
-use Rattle.json_fields.specs.Fields.{array_of, each_of, is_object, json_of, pair_of, text_of, whole_of}
+use Rattle.json_fields.specs.Fields.{array_of, each_of, is_object, json_of, pair_of, string_of, whole_of}
 use Rattle.json_fields.specs.Members.{default_or, member_as, member_or}
 use Rattle.fc_numbers.specs.Names.{is_printed}
 use Rattle.fc_numbers.specs.declared.places.Span.{Span}
@@ -25,8 +25,8 @@ use Rattle.elf_read.specs.declared.parts.ElfFault.{ElfFault}
 use Rattle.elf_read.specs.declared.parts.ElfFault.TheVariants.{EntryOutside, Misplaced, NoText, NotElf, OddFunction, TooLarge, TooManyFunctions, TooManyTexts, Truncated, WritableText, WrongKind}
 use Rattle.elf_read.specs.Addresses.{place_of_address}
 use Rattle.elf_read.specs.Elf.{are_symbols, are_tables, code_of, elf_of, has_mark, is_kind, is_loaded, laid_by, layout_of, named_by, strings_of, symbol_table}
-use Rattle.elf_read.specs.Fields.{header_of, is_function, named_at, named_of, sections_in, segments_in, string_at, symbols_in}
-use Rattle.elf_read.specs.Kernel.{are_placed, entry_in, is_odd_in, is_text, kernel_at, kernel_in, kernel_of_laid, text_spans}
+use Rattle.elf_read.specs.Fields.{header_of, is_function_symbol, named_at, named_of, sections_in, segments_in, string_at, symbols_in}
+use Rattle.elf_read.specs.Kernel.{are_placed, entry_in, is_odd_in, is_nonempty_code, kernel_at, kernel_in, kernel_of_laid, text_spans}
 use Rattle.elf_read.specs.Laid.{Layout}
 use Rattle.elf_read.specs.Starts.{and_then_listed, comes_before, functions_from, functions_in, functions_of, head_name, kept_name, least_at, lesser, name_at, or_question, shown_byte, starts_in}
 use Rattle.elf_read.specs.Steps.{must, or_fault}
@@ -34,7 +34,7 @@ use Rattle.elf_read.proofs.Passing.{bind_ok, or_fault_ok, same_Ok}
 use Rattle.guest_image.specs.declared.image.Field.TheVariants as key
 use Rattle.guest_image.specs.declared.image.ImageFault.TheVariants.{NotJson, Shape}
 use Rattle.guest_image.specs.ImageFile.{image_of, kernel_bytes, or_elf, plain_kernel}
-use Rattle.guest_image.specs.Plain.{both_of, coded_of, laid_with, name_of, plain_of, single_of}
+use Rattle.guest_image.specs.Plain.{both_of, coded_of, laid_with, plain_name, plain_of, single_of}
 use Rattle.guest_image.specs.Plain as plain
 use Rattle.code_listing.specs.ReadBack.{HasPrintedNames, is_printed_name}
 use Rattle.listing_commands.specs.ReadBack.{AcceptedNamesArePrinted}
@@ -165,7 +165,7 @@ in-printed l spans k are h =
 kernel-printed : (l : Layout) (k : ElfParts) → ArePlaces l.named → kernel_of_laid l ≡ Ok k → AreFunctions k.functions
 unfolding kernel_of_laid
 kernel-printed l k are h =
-    let a = bind_ok (must NoText (is_text l.code)) _ k h in
+    let a = bind_ok (must NoText (is_nonempty_code l.code)) _ k h in
     let b = bind_ok (must TooManyTexts (nat_le (length l.code) RANGES_MOST)) _ k a.2 in
     let c = bind_ok (must WritableText (not l.writable)) _ k b.2 in
     let d = bind_ok (must Misplaced (are_placed l.code l.parts)) _ k c.2 in
@@ -185,7 +185,7 @@ symbols-printed : (code : List ProgramHeader) (strings : List ℕ) (symbols : Li
 symbols-printed code strings [] = tt
 symbols-printed code strings (s ∷ ss) =
     let one : ArePlaces (named_of code strings s) =
-    elim (is_function s) as (λ t. ArePlaces (cond t (named_at (place_of_address code s.st_value) (string_at strings s.st_name)) [])) [
+    elim (is_function_symbol s) as (λ t. ArePlaces (cond t (named_at (place_of_address code s.st_value) (string_at strings s.st_name)) [])) [
       | true ↦ symbol-printed (place_of_address code s.st_value) (string_at strings s.st_name)
       | false ↦ tt
     ] in
@@ -222,39 +222,39 @@ map_some : {A B : Type 0} (f : A → B) (o : Option A) (y : B) → option_map f 
 map_some f None y h = absurd cc
 map_some f (Some x) y h = (x, refl, cc)
 
-pair-printed : (d : Data) (f : NamedPlace) → plain.named_of d ≡ Some f → IsPrinted f.name
-unfolding plain.named_of name_of
+pair-printed : (d : Data) (f : NamedPlace) → plain.plain_named_place d ≡ Some f → IsPrinted f.name
+unfolding plain.plain_named_place plain_name
 pair-printed d f h =
-    let pair = then_some (both_of name_of plain.named_at) (pair_of d) f h in
-    let place = then_some (λ place. option_map (plain.named_at place) (name_of pair.0.1)) (whole_of pair.0.0) f pair.2 in
-    let name = map_some (plain.named_at place.0) (name_of pair.0.1) f place.2 in
-    let kept = map_some kept_name (text_of pair.0.1) name.0 name.1 in
+    let pair = then_some (both_of plain_name plain.named_place) (pair_of d) f h in
+    let place = then_some (λ place. option_map (plain.named_place place) (plain_name pair.0.1)) (whole_of pair.0.0) f pair.2 in
+    let name = map_some (plain.named_place place.0) (plain_name pair.0.1) f place.2 in
+    let kept = map_some kept_name (string_of pair.0.1) name.0 name.1 in
     subst (λ (x : NamedPlace). IsPrinted x.name) name.2 (subst IsPrinted kept.2 (kept-printed kept.0))
 
-pairs-printed : (ds : List Data) (fs : List NamedPlace) → each_of plain.named_of ds ≡ Some fs → ArePlaces fs
+pairs-printed : (ds : List Data) (fs : List NamedPlace) → each_of plain.plain_named_place ds ≡ Some fs → ArePlaces fs
 pairs-printed [] fs h = subst ArePlaces (same-some [] fs h) tt
 pairs-printed (d ∷ ds) fs h =
-    let first = then_some (λ y. option_map (λ ys. y ∷ ys) (each_of plain.named_of ds)) (plain.named_of d) fs h in
-    let rest = map_some (λ ys. first.0 ∷ ys) (each_of plain.named_of ds) fs first.2 in
+    let first = then_some (λ y. option_map (λ ys. y ∷ ys) (each_of plain.plain_named_place ds)) (plain.plain_named_place d) fs h in
+    let rest = map_some (λ ys. first.0 ∷ ys) (each_of plain.plain_named_place ds) fs first.2 in
     subst ArePlaces rest.2 (pair-printed d first.0 first.1, pairs-printed ds rest.0 rest.1)
 
-names-printed : (d : Data) (fs : List NamedPlace) → plain.names_of d ≡ Some fs → ArePlaces fs
-unfolding plain.names_of
+names-printed : (d : Data) (fs : List NamedPlace) → plain.plain_named_places d ≡ Some fs → ArePlaces fs
+unfolding plain.plain_named_places
 names-printed d fs h =
-    let items = then_some (each_of plain.named_of) (array_of d) fs h in
+    let items = then_some (each_of plain.plain_named_place) (array_of d) fs h in
     pairs-printed items.0 fs items.2
 
-member-printed : (o : Option Data) (fs : List NamedPlace) → default_or plain.names_of [] o ≡ Some fs → ArePlaces fs
+member-printed : (o : Option Data) (fs : List NamedPlace) → default_or plain.plain_named_places [] o ≡ Some fs → ArePlaces fs
 member-printed None fs h = subst ArePlaces (same-some [] fs h) tt
 member-printed (Some d) fs h = names-printed d fs h
 
 with-printed : (code : List Segment) (entry : ℕ) (d : Data) (l : Layout) → laid_with code entry d ≡ Ok l → ArePlaces l.named
 unfolding laid_with
 with-printed code entry d l h =
-    let a = bind_ok (or_fault (Shape key.«Data») (member_or plain.parts_of [] (codes "data") d)) _ l h in
-    let b = bind_ok (or_fault (Shape key.Functions) (member_or plain.names_of [] (codes "functions") d)) _ l a.2 in
-    let c = bind_ok (must (Shape key.Other) (plain.is_known d)) _ l b.2 in
-    let named = member-printed (get (codes "functions") d) b.0 (or_fault_ok (Shape key.Functions) (member_or plain.names_of [] (codes "functions") d) b.0 b.1) in
+    let a = bind_ok (or_fault (Shape key.«Data») (member_or plain.plain_parts [] (codes "data") d)) _ l h in
+    let b = bind_ok (or_fault (Shape key.Functions) (member_or plain.plain_named_places [] (codes "functions") d)) _ l a.2 in
+    let c = bind_ok (must (Shape key.Other) (plain.is_image_known d)) _ l b.2 in
+    let named = member-printed (get (codes "functions") d) b.0 (or_fault_ok (Shape key.Functions) (member_or plain.plain_named_places [] (codes "functions") d) b.0 b.1) in
     subst (λ (x : Layout). ArePlaces x.named) (same_Ok _ l c.2) named
 
 coded-printed : (d : Data) (l : Layout) → coded_of d ≡ Ok l → ArePlaces l.named
@@ -273,7 +273,7 @@ single-printed d l h =
     let b = bind_ok (or_fault (Shape key.Base) (member_as whole_of (codes "base") d)) _ l a.2 in
     let c = bind_ok (or_fault (Shape key.Entry) (member_as whole_of (codes "entry") d)) _ l b.2 in
     let e = bind_ok (or_fault (Shape key.Text) (member_as plain.hex_of (codes "text") d)) _ l c.2 in
-    with-printed (plain.segment_at b.0 e.0 ∷ []) c.0 d l e.2
+    with-printed (plain.segment_of_bytes b.0 e.0 ∷ []) c.0 d l e.2
 
 laid-printed : (d : Data) (l : Layout) → plain_of d ≡ Ok l → ArePlaces l.named
 unfolding plain_of

@@ -1,7 +1,7 @@
 //! What `list` makes: the listing of the code that the view of an app has.
 
 ghost use Rattle.std.specs.Prelude.{◌≡◌, ℕ, List, Option, Some, map, string_bytes, IfOk};
-ghost use Rattle.command_frame.specs.Promise.{Told};
+ghost use Rattle.command_frame.specs.Promise.{FileContents};
 ghost use Rattle.command_frame.specs.Command.{MakeSaid, MakeCounts, HasOutputs};
 ghost use Rattle.guest_input.specs.Accepted.{IsImage};
 ghost use Rattle.function_table.specs.Groups.{groups_of};
@@ -50,7 +50,7 @@ pub fn make_list<S: Store>(
     app: &Name,
     store: &mut S,
 ) -> Result<Product, Refusal>
-    ensures said { (told : Told) → S.files store.old ≡ Some told → MakeSaid (list_request (map string_bytes words.now) app.now) told result }
+    ensures said { (told : FileContents) → S.files store.old ≡ Some told → MakeSaid (list_request (map string_bytes words.now) app.now) told result }
     ensures counted { MakeCounts (list_request (map string_bytes words.now) app.now) (S.reads store.old) (S.reads store.new) result }
     ensures outputs { HasOutputs (list_request (map string_bytes words.now) app.now) result }
     ensures files { S.files store.new ≡ S.files store.old }

@@ -1,7 +1,7 @@
 //! What `surface` makes: how much code of the kernel the view of each app has.
 
 ghost use Rattle.std.specs.Prelude.{◌≡◌, ℕ, List, Option, Some, map, string_bytes};
-ghost use Rattle.command_frame.specs.Promise.{Told};
+ghost use Rattle.command_frame.specs.Promise.{FileContents};
 ghost use Rattle.command_frame.specs.Command.{MakeSaid, MakeCounts, HasOutputs};
 ghost use Rattle.listing_commands.specs.Requests.{surface_request};
 
@@ -24,7 +24,7 @@ pub fn make_surface<S: Store>(
     words: &[String],
     store: &mut S,
 ) -> Result<Product, Refusal>
-    ensures said { (told : Told) → S.files store.old ≡ Some told → MakeSaid (surface_request (map string_bytes words.now)) told result }
+    ensures said { (told : FileContents) → S.files store.old ≡ Some told → MakeSaid (surface_request (map string_bytes words.now)) told result }
     ensures counted { MakeCounts (surface_request (map string_bytes words.now)) (S.reads store.old) (S.reads store.new) result }
     ensures outputs { HasOutputs (surface_request (map string_bytes words.now)) result }
     ensures files { S.files store.new ≡ S.files store.old }

@@ -5,7 +5,7 @@ use Rattle.std.specs.Prelude.{◌==◌, if◌then◌else◌, option_map}
 use Rattle.std.specs.List.{position, position_or_len, prefix_len}
 use Rattle.std.proofs.lemmas.Bool.{false≢true, eq-eqb, lt-ltb, le-ltb, ltb-true, ltb-false}
 use Rattle.listing_reader.specs.Lines.{cut_at}
-use Rattle.listing_reader.specs.Reading.{lines_of, before_first_line}
+use Rattle.listing_reader.specs.Reading.{lines_of_listing, before_first_line}
 
 -- no byte is this one
 abbrev pub is_free : ℕ → List ℕ → Bool
@@ -77,22 +77,22 @@ cut-none b (x ∷ xs) e =
     ] e
 
 -- a line with its newline is the first of the lines
-pub lines-free : (xs ys : List ℕ) → is_free 0x0a xs ≡ true → lines_of (xs ++ 0x0a ∷ ys) ≡ (xs ++ 0x0a ∷ []) ∷ lines_of ys
+pub lines-free : (xs ys : List ℕ) → is_free 0x0a xs ≡ true → lines_of_listing (xs ++ 0x0a ∷ ys) ≡ (xs ++ 0x0a ∷ []) ∷ lines_of_listing ys
 lines-free [] ys f = refl
 lines-free (x ∷ xs) ys f =
     elim (x == 0x0a) as (λ t. cond t false (is_free 0x0a xs) ≡ true
-    → (if t then (x ∷ []) ∷ lines_of (xs ++ 0x0a ∷ ys) else before_first_line x (lines_of (xs ++ 0x0a ∷ ys))) ≡ (x ∷ xs ++ 0x0a ∷ []) ∷ lines_of ys) [
+    → (if t then (x ∷ []) ∷ lines_of_listing (xs ++ 0x0a ∷ ys) else before_first_line x (lines_of_listing (xs ++ 0x0a ∷ ys))) ≡ (x ∷ xs ++ 0x0a ∷ []) ∷ lines_of_listing ys) [
       | true ↦ λ f. absurd (false≢true f)
       | false ↦ λ f. ap (before_first_line x) (lines-free xs ys f)
     ] f
 
 -- bytes without a newline are one line
-pub lines-alone : (x : ℕ) (xs : List ℕ) → is_free 0x0a (x ∷ xs) ≡ true → lines_of (x ∷ xs) ≡ (x ∷ xs) ∷ []
+pub lines-alone : (x : ℕ) (xs : List ℕ) → is_free 0x0a (x ∷ xs) ≡ true → lines_of_listing (x ∷ xs) ≡ (x ∷ xs) ∷ []
 lines-alone x [] f =
     elim (x == 0x0a) as (λ t. (if t then (x ∷ []) ∷ [] else (x ∷ []) ∷ []) ≡ (x ∷ []) ∷ []) [ true ↦ refl | false ↦ refl ]
 lines-alone x (y ∷ ys) f =
     elim (x == 0x0a) as (λ t. cond t false (is_free 0x0a (y ∷ ys)) ≡ true
-    → (if t then (x ∷ []) ∷ lines_of (y ∷ ys) else before_first_line x (lines_of (y ∷ ys))) ≡ (x ∷ y ∷ ys) ∷ []) [
+    → (if t then (x ∷ []) ∷ lines_of_listing (y ∷ ys) else before_first_line x (lines_of_listing (y ∷ ys))) ≡ (x ∷ y ∷ ys) ∷ []) [
       | true ↦ λ f. absurd (false≢true f)
       | false ↦ λ f. ap (before_first_line x) (lines-alone y ys f)
     ] f

@@ -7,8 +7,8 @@ use Rattle.std.proofs.lemmas.Slice.Eq.{bytes_eq-Decides}
 use Rattle.listing_reader.specs.declared.line.Line.{Line}
 use Rattle.listing_reader.specs.declared.line.Line.TheVariants.{Head, Zeros, Wide, Short}
 use Rattle.listing_reader.specs.declared.line.TheConstants.{HALVES_MOST, COUNT_DIGITS}
-use Rattle.listing_reader.specs.Lines.{cut_at, digit_value, digits_of, form_of, is_name, is_place, is_within, line_of, number_behind, number_in, place_of, printed_number}
-use Rattle.listing_reader.specs.Reading.{lines_of, read_after, read_from}
+use Rattle.listing_reader.specs.Lines.{cut_at, digit_value, digits_of, line_by_form, is_name, is_place, is_within_addresses, line_of_text, number_behind, number_in, place_of_word, printed_number}
+use Rattle.listing_reader.specs.Reading.{lines_of_listing, read_after, read_from}
 use Rattle.listing_reader.specs.Written.{IsLineOf, IsOneLine, written_place}
 use Rattle.listing_reader.proofs.Cuts.{is_free, cut-free, cut-none, free-none, free-append}
 use Rattle.listing_reader.proofs.Digits.{printed-digits, printed-free}
@@ -53,7 +53,7 @@ no-zeros : (word : List ℕ) (n : ℕ) → number_in 16 word ≡ Some n → byte
 no-zeros word n e = free-other 0x7a word (codes "zero") (number-free 0x7a 16 0 n word (omega arith) e) refl
 
 -- a place is read as it is written
-place-read : (at : ℕ) → at < 2 ^ 64 → place_of (written_place at) ≡ Some at
+place-read : (at : ℕ) → at < 2 ^ 64 → place_of_word (written_place at) ≡ Some at
 place-read at small = printed-digits 16 15 at (omega arith) (omega arith) (omega (arith, small)) (omega (arith, small))
 
 place-word : (at : ℕ) → is_free 0x20 (written_place at) ≡ true
@@ -63,16 +63,16 @@ place-line : (at : ℕ) → is_free 0x0a (written_place at) ≡ true
 place-line at = printed-free 0x0a 16 at (omega arith)
 
 -- a line of a place, a word and what stands behind it
-line-says : (at : ℕ) (rest word behind : List ℕ) (line : Line) → at < 2 ^ 64 → cut_at 0x20 rest ≡ Some (word, behind) → form_of at word behind ≡ Some line → is_within line ≡ true
-    → line_of (written_place at ++ 0x20 ∷ rest) ≡ Some line
-unfolding line_of
+line-says : (at : ℕ) (rest word behind : List ℕ) (line : Line) → at < 2 ^ 64 → cut_at 0x20 rest ≡ Some (word, behind) → line_by_form at word behind ≡ Some line → is_within_addresses line ≡ true
+    → line_of_text (written_place at ++ 0x20 ∷ rest) ≡ Some line
+unfolding line_of_text
 line-says at rest word behind line small cut form within =
     rw (cut-free 0x20 (written_place at) rest (place-word at), place-read at small, cut, form, within) refl
 
 pub heads_read : (start end : ℕ) (name : List ℕ) → start < 2 ^ 64 → end < 2 ^ 64 → is_name name ≡ true → IsOneLine name
     → IsLineOf Head (written_place start ++ 0x20 ∷ (written_place end ++ 0x20 ∷ name))
 heads_read start end name low high named one =
-    let form : form_of start (written_place end) name ≡ Some Head = rw (place-read end high, named) refl in (
+    let form : line_by_form start (written_place end) name ≡ Some Head = rw (place-read end high, named) refl in (
       free-none 0x0a (written_place start ++ 0x20 ∷ (written_place end ++ 0x20 ∷ name))
           (free-append 0x0a (written_place start) (0x20 ∷ (written_place end ++ 0x20 ∷ name)) (place-line start) (free-append 0x0a (written_place end) (0x20 ∷ name) (place-line end) (cut-none 0x0a name one))),
       line-says start (written_place end ++ 0x20 ∷ name) (written_place end) name Head low (cut-free 0x20 (written_place end) name (place-word end)) form refl,
@@ -84,17 +84,17 @@ zeros_read at count some few within =
     let number : printed_number 10 COUNT_DIGITS (decimal count) ≡ Some count = printed-digits 10 6 count (omega arith) (omega arith) (omega (arith, few)) (omega (arith, few)) in
     let least = le-leb 1 count some in
     let most = le-leb count HALVES_MOST few in
-    let form : form_of at (codes "zero") (decimal count) ≡ Some (Zeros at count) = rw (number, least, most) refl in (
+    let form : line_by_form at (codes "zero") (decimal count) ≡ Some (Zeros at count) = rw (number, least, most) refl in (
       free-none 0x0a (written_place at ++ 0x20 ∷ (codes "zero" ++ 0x20 ∷ decimal count))
           (free-append 0x0a (written_place at) (0x20 ∷ (codes "zero" ++ 0x20 ∷ decimal count)) (place-line at) (printed-free 0x0a 10 count (omega arith))),
       line-says at (codes "zero" ++ 0x20 ∷ decimal count) (codes "zero") (decimal count) (Zeros at count) (omega (arith, within)) refl form (lt-ltb (at + 2 * (count - 1)) (2 ^ 64) within),
     )
 
 -- a line of digits
-word-line : (at n : ℕ) (word behind : List ℕ) (line : Line) → at < 2 ^ 64 → number_in 16 word ≡ Some n → IsOneLine behind → digits_of at word ≡ Some line → is_within line ≡ true
+word-line : (at n : ℕ) (word behind : List ℕ) (line : Line) → at < 2 ^ 64 → number_in 16 word ≡ Some n → IsOneLine behind → digits_of at word ≡ Some line → is_within_addresses line ≡ true
     → IsLineOf line (written_place at ++ 0x20 ∷ (word ++ 0x20 ∷ behind))
 word-line at n word behind line small number one made within =
-    let form : form_of at word behind ≡ Some line = rw (no-place word n number, no-zeros word n number) made in (
+    let form : line_by_form at word behind ≡ Some line = rw (no-place word n number, no-zeros word n number) made in (
       free-none 0x0a (written_place at ++ 0x20 ∷ (word ++ 0x20 ∷ behind))
           (free-append 0x0a (written_place at) (0x20 ∷ (word ++ 0x20 ∷ behind)) (place-line at) (free-append 0x0a word (0x20 ∷ behind) (number-free 0x0a 16 0 n word (omega arith) number) (cut-none 0x0a behind one))),
       line-says at (word ++ 0x20 ∷ behind) word behind line small (cut-free 0x20 word behind (number-free 0x20 16 0 n word (omega arith) number)) form within,
@@ -116,7 +116,7 @@ wides_read at low high word behind small half long number one =
     word-line at (low + 65536 * high) word behind (Wide at low high) (omega (arith, small)) number one (rw (not_four, eight, number, rest, whole) refl) (lt-ltb (at + 2 * (2 - 1)) (2 ^ 64) (omega (arith, small)))
 
 pub lines_read : (n before : ℕ) (line : Line) (text more : List ℕ) → IsLineOf line text
-    → read_from n before (lines_of (text ++ 0x0a ∷ more)) ≡ read_after n before (Some (line, more))
+    → read_from n before (lines_of_listing (text ++ 0x0a ∷ more)) ≡ read_after n before (Some (line, more))
 lines_read n before line text more is =
     read-free text more n before (cut-none 0x0a text is.0) ∙ ap (λ o. read_after n before (option_map (λ l. (l, more)) o)) is.1
 

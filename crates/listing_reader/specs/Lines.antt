@@ -13,8 +13,8 @@ abbrev pub ◌>>=◌ : {A B : Type 0} → Option A → (A → Option B) → Opti
 None >>= f = None
 
 -- a test on the way
-abbrev pub when : Bool → Option (Unit {0})
-when test = if test then Some tt else None
+abbrev pub only_when : Bool → Option (Unit {0})
+only_when test = if test then Some tt else None
 
 -- what stands before the first of these bytes, and what stands behind it
 abbrev pub cut_at : ℕ → List ℕ → Option (List ℕ × List ℕ)
@@ -48,24 +48,24 @@ abbrev pub is_place : List ℕ → Bool
 is_place word = bytes_eq (take 2 word) (codes "0x")
 
 -- a place: 0x and a number of 64 bits
-abbrev pub place_of : List ℕ → Option ℕ
-place_of word = if is_place word then printed_number 16 PLACE_DIGITS (drop 2 word) else None
+abbrev pub place_of_word : List ℕ → Option ℕ
+place_of_word word = if is_place word then printed_number 16 PLACE_DIGITS (drop 2 word) else None
 
 -- one byte or more, and no space
 abbrev pub is_name : List ℕ → Bool
 is_name bytes = nat_lt 0 (length bytes) && is_none (cut_at 0x20 bytes)
 
-abbrev pub head_of : List ℕ → List ℕ → Option Line
-head_of word behind = do
-  end ← place_of word
-  named ← when (is_name behind)
+abbrev pub head_line_of : List ℕ → List ℕ → Option Line
+head_line_of word behind = do
+  end ← place_of_word word
+  named ← only_when (is_name behind)
   Some Head
 
 -- from 1 to the most halfwords of text
 abbrev pub zeros_of : ℕ → List ℕ → Option Line
 zeros_of at word = do
   count ← printed_number 10 COUNT_DIGITS word
-  some ← when (nat_le 1 count && nat_le count HALVES_MOST)
+  some ← only_when (nat_le 1 count && nat_le count HALVES_MOST)
   Some (Zeros at count)
 
 abbrev pub digits_of : ℕ → List ℕ → Option Line
@@ -75,9 +75,9 @@ digits_of at word =
     else None
 
 -- the line of a place, the word behind it, and what stands behind that
-abbrev pub form_of : ℕ → List ℕ → List ℕ → Option Line
-form_of at word behind =
-    if is_place word then head_of word behind
+abbrev pub line_by_form : ℕ → List ℕ → List ℕ → Option Line
+line_by_form at word behind =
+    if is_place word then head_line_of word behind
     else if bytes_eq word (codes "zero") then zeros_of at behind
     else digits_of at word
 
@@ -102,15 +102,15 @@ line_size (Wide at low high) = 2
 line_size (Short at half) = 1
 
 -- the place of the last one has 64 bits
-abbrev pub is_within : Line → Bool
-is_within line = nat_lt (line_place line + 2 * (line_size line - 1)) (2 ^ 64)
+abbrev pub is_within_addresses : Line → Bool
+is_within_addresses line = nat_lt (line_place line + 2 * (line_size line - 1)) (2 ^ 64)
 
 -- what a line says, where it has a form
-unfoldable pub line_of : List ℕ → Option Line
-line_of text = do
+unfoldable pub line_of_text : List ℕ → Option Line
+line_of_text text = do
   first ← cut_at 0x20 text
-  at ← place_of first.0
+  at ← place_of_word first.0
   second ← cut_at 0x20 first.1
-  line ← form_of at second.0 second.1
-  fits ← when (is_within line)
+  line ← line_by_form at second.0 second.1
+  fits ← only_when (is_within_addresses line)
   Some line

@@ -4,8 +4,8 @@ use Rattle.std.specs.Fmt.{decimal, digits}
 use Rattle.listing_reader.specs.declared.line.Line.{Line}
 use Rattle.listing_reader.specs.declared.line.Line.TheVariants.{Head, Zeros, Wide, Short}
 use Rattle.listing_reader.specs.declared.line.TheConstants.{HALVES_MOST}
-use Rattle.listing_reader.specs.Lines.{cut_at, is_name, line_of, number_in}
-use Rattle.listing_reader.specs.Reading.{lines_of, read_after, read_from}
+use Rattle.listing_reader.specs.Lines.{cut_at, is_name, line_of_text, number_in}
+use Rattle.listing_reader.specs.Reading.{lines_of_listing, read_after, read_from}
 
 -- the bytes have no newline
 abbrev pub IsOneLine : List ℕ → Type 0
@@ -13,7 +13,7 @@ IsOneLine text = cut_at 0x0a text ≡ None
 
 -- the text is one line, and says this
 abbrev pub IsLineOf : Line → List ℕ → Type 0
-IsLineOf line text = IsOneLine text × (line_of text ≡ Some line)
+IsLineOf line text = IsOneLine text × (line_of_text text ≡ Some line)
 
 -- a place in hexadecimal, in lower case and without leading zeros
 abbrev pub written_place : ℕ → List ℕ
@@ -42,7 +42,7 @@ WidesAreRead = (at low high : ℕ) (word behind : List ℕ) → at + 2 < 2 ^ 64 
 -- a line and its newline in front of other bytes
 abbrev pub LinesAreReadInOrder : Type 0
 LinesAreReadInOrder = (n before : ℕ) (line : Line) (text more : List ℕ) → IsLineOf line text
-    → read_from n before (lines_of (text ++ 0x0a ∷ more)) ≡ read_after n before (Some (line, more))
+    → read_from n before (lines_of_listing (text ++ 0x0a ∷ more)) ≡ read_after n before (Some (line, more))
 
 -- printed numbers have no newline
 abbrev pub NumbersAreOneLine : Type 0

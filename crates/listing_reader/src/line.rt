@@ -1,7 +1,7 @@
 //! The lines of a listing.
 
 ghost use Rattle.std.specs.Prelude.{◌≡◌, ◌≤◌, ◌<◌, ◌+◌, ◌*◌, ◌^◌, true, IfSome};
-ghost use Rattle.listing_reader.specs.Lines.{digits_of, form_of, head_of, is_name, is_within, line_of, line_place, line_size, zeros_of};
+ghost use Rattle.listing_reader.specs.Lines.{digits_of, line_by_form, head_line_of, is_name, is_within_addresses, line_of_text, line_place, line_size, zeros_of};
 
 use crate::words::{cut_at, is_place, number_in, place_of, printed_number};
 
@@ -60,7 +60,7 @@ fn is_name(bytes: &[u8]) -> bool
 
 /// The head of a group, from the end of its range and its name.
 fn head_of(word: &[u8], behind: &[u8]) -> Option<Line>
-    ensures { result ≡ head_of word.now behind.now }
+    ensures { result ≡ head_line_of word.now behind.now }
 {
     place_of(word)?;
     if is_name(behind) {
@@ -104,7 +104,7 @@ fn digits_of(at: u64, word: &[u8]) -> Option<Line>
 
 /// The line of a place, the word behind it, and what stands behind that.
 fn form_of(at: u64, word: &[u8], behind: &[u8]) -> Option<Line>
-    ensures { result ≡ form_of at word.now behind.now }
+    ensures { result ≡ line_by_form at word.now behind.now }
 {
     if is_place(word) {
         head_of(word, behind)
@@ -117,17 +117,17 @@ fn form_of(at: u64, word: &[u8], behind: &[u8]) -> Option<Line>
 
 /// Whether the place of the last halfword has 64 bits.
 fn is_within(line: Line) -> bool
-    ensures { result ≡ is_within line }
+    ensures { result ≡ is_within_addresses line }
 {
     let further = 2 * line_size(line).saturating_sub(1);
     line_place(line).checked_add(further).is_some()
 }
 
 /// What a line without its newline says, where it has a form.
-#[tactic(auto, unfolding(crate::specs::Lines::line_of))]
+#[tactic(auto, unfolding(crate::specs::Lines::line_of_text))]
 pub(crate) fn line_of(text: &[u8]) -> Option<Line>
-    ensures value { result ≡ line_of text.now }
-    ensures within { IfSome result (λ line. is_within line ≡ true) }
+    ensures value { result ≡ line_of_text text.now }
+    ensures within { IfSome result (λ line. is_within_addresses line ≡ true) }
 {
     let (first, behind) = cut_at(b' ', text)?;
     let at = place_of(first)?;

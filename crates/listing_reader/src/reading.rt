@@ -1,8 +1,8 @@
 //! The halfwords of a listing.
 
 ghost use Rattle.std.specs.Prelude.{◌≡◌, ℕ, ◌≤◌, ◌<◌, ◌+◌, ◌-◌, ◌*◌, ◌^◌, ◌++◌, [], ◌∷◌, true, length, option_map, replicate, IfSome, OnOk};
-ghost use Rattle.listing_reader.specs.Lines.{is_within, line_halves, line_place, line_size};
-ghost use Rattle.listing_reader.specs.Reading.{Answers, halves_read, held_from, lines_of, read_after, read_from};
+ghost use Rattle.listing_reader.specs.Lines.{is_within_addresses, line_halves, line_place, line_size};
+ghost use Rattle.listing_reader.specs.Reading.{AnswersListing, halves_read, held_from, lines_of_listing, read_after, read_from};
 
 use crate::fault::ListFault;
 use crate::line::{HALVES_MOST, Line, line_of, line_size};
@@ -38,7 +38,7 @@ fn push_zeros(held: &mut Vec<Held>, at: u64, count: u32) -> Result<(), AllocErro
 
 /// Appends the halfwords of a line, with their places.
 fn push_line(held: &mut Vec<Held>, line: Line) -> Result<(), AllocError>
-    requires { is_within line ≡ true }
+    requires { is_within_addresses line ≡ true }
     ensures { OnOk result (held.new.items ≡ held.old.items ++ held_from (line_place line) (line_halves line)) }
 {
     match line {
@@ -55,8 +55,8 @@ fn push_line(held: &mut Vec<Held>, line: Line) -> Result<(), AllocError>
 /// The first line of some bytes, and what stands behind it; None where it has no form.
 fn next_line(bytes: &[u8]) -> Option<(Line, &[u8])>
     requires { 0 < length bytes.now }
-    ensures read { (n before : ℕ) → read_from n before (lines_of bytes.now) ≡ read_after n before (option_map (λ next. (next.0, next.1.now)) result) }
-    ensures within { IfSome result (λ next. is_within next.0 ≡ true) }
+    ensures read { (n before : ℕ) → read_from n before (lines_of_listing bytes.now) ≡ read_after n before (option_map (λ next. (next.0, next.1.now)) result) }
+    ensures within { IfSome result (λ next. is_within_addresses next.0 ≡ true) }
     ensures shorter { IfSome result (λ next. length next.1.now < length bytes.now) }
 {
     let Some((text, behind)) = cut_at(b'\n', bytes) else {
@@ -72,7 +72,7 @@ fn next_line(bytes: &[u8]) -> Option<(Line, &[u8])>
 /// of bytes.
 pub fn read_listing(alloc: Global, bytes: &[u8]) -> Result<Vec<Held>, ListFault>
     requires { length bytes.now < 2 ^ 32 }
-    ensures { Answers (λ held. held.items) result (halves_read bytes.now) }
+    ensures { AnswersListing (λ held. held.items) result (halves_read bytes.now) }
 {
     let mut held = Vec::new(alloc);
     let mut rest = bytes;

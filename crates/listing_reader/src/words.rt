@@ -1,7 +1,7 @@
 //! Words of lines, and the numbers that they write.
 
 ghost use Rattle.std.specs.Prelude.{◌≡◌, ◌≤◌, ◌<◌, ◌+◌, ◌-◌, ◌*◌, ◌^◌, ◌==◌, length, option_map, position, IfSome};
-ghost use Rattle.listing_reader.specs.Lines.{cut_at, digit_value, is_place, is_printed_number, number_behind, number_in, place_of, printed_number};
+ghost use Rattle.listing_reader.specs.Lines.{cut_at, digit_value, is_place, is_printed_number, number_behind, number_in, place_of_word, printed_number};
 
 use crate::line::PLACE_DIGITS;
 
@@ -73,7 +73,7 @@ pub(crate) fn is_place(word: &[u8]) -> bool
 
 /// The place that the word prints.
 pub(crate) fn place_of(word: &[u8]) -> Option<u64>
-    ensures { result ≡ place_of word.now }
+    ensures { result ≡ place_of_word word.now }
 {
     if !is_place(word) {
         return None;

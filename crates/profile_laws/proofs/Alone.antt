@@ -11,14 +11,14 @@ use Rattle.guest_board.specs.declared.rules.Rules.{Rules}
 use Rattle.guest_board.specs.Board.{State, made_of, may, next_start, run_from, step_of}
 use Rattle.guest_board.specs.First.{first_slot, first_slots, first_state}
 use Rattle.guest_board.specs.Laws.{NumberOfVcpusStays}
-use Rattle.run_evidence.specs.Config.{Config, IsConfig, IsLawful, full, full_at, rules_in}
+use Rattle.run_evidence.specs.Config.{Config, IsConfig, IsLawfulSchedule, full, full_at, rules_in}
 use Rattle.profiler.specs.RoundRobin.{IsNextInTurn, IsRoundRobin, TakesTurns, is_passed, vcpu_before}
 use Rattle.profiler.specs.Profile.{IsProfile, unviewed}
 use Rattle.vcpu_core.specs.First.{first_world}
 use Rattle.vcpu_core.specs.World.{blank_paged, erased, go_all}
 use Rattle.vcpu_core.specs.Sound.{IsSound}
 use Rattle.vcpu_core.specs.Undisturbed.{CoveredLogsNothing, OneVcpuIsUndisturbed}
-use Rattle.guest_runs.specs.Engine.{events_of}
+use Rattle.guest_runs.specs.Engine.{events_of_script}
 use Rattle.guest_runs.specs.Log.{JustifiedEntriesArePrintable}
 use Rattle.profile_laws.specs.Profiled.{OneVcpuLogsNothing, OneVcpuTracesNothing, RoundRobinLogsNothing}
 use Rattle.profile_laws.proofs.Covered.{covered}
@@ -73,16 +73,16 @@ passed-some zero p = absurd (false≢true p)
 passed-some (suc k) p = omega arith
 
 -- with one vCPU each step is one of vCPU 0
-only : NumberOfVcpusStays → (c : Config) (h : List ℕ) (t : ℕ) → c.setup.vcpus ≡ 1 → IsLawful c h → t < length h → slice_index h t ≡ 0
+only : NumberOfVcpusStays → (c : Config) (h : List ℕ) (t : ℕ) → c.setup.vcpus ≡ 1 → IsLawfulSchedule c h → t < length h → slice_index h t ≡ 0
 only stays c h t one lawful within =
     let below = may-within (rules_in c) (full_at c h t) (slice_index h t) (lawful t within) in
     omega (arith, below, slots-at stays c h t, one)
 
-before-only : NumberOfVcpusStays → (c : Config) (h : List ℕ) (t : ℕ) → c.setup.vcpus ≡ 1 → IsLawful c h → t < length h → vcpu_before c h t ≡ 0
+before-only : NumberOfVcpusStays → (c : Config) (h : List ℕ) (t : ℕ) → c.setup.vcpus ≡ 1 → IsLawfulSchedule c h → t < length h → vcpu_before c h t ≡ 0
 before-only stays c h zero one lawful within = omega (arith, one)
 before-only stays c h (suc t) one lawful within = only stays c h t one lawful (omega (arith, within))
 
-one-turns : NumberOfVcpusStays → (c : Config) (h : List ℕ) → c.setup.vcpus ≡ 1 → IsLawful c h → TakesTurns c h
+one-turns : NumberOfVcpusStays → (c : Config) (h : List ℕ) → c.setup.vcpus ≡ 1 → IsLawfulSchedule c h → TakesTurns c h
 one-turns stays c h one lawful = λ t within.
     let last = before-only stays c h t one lawful within in
     let vcpu = only stays c h t one lawful within in
@@ -112,7 +112,7 @@ no-entries (p ∷ ps) none =
 
 pub one-traces : EveryOrderIsSound → OneVcpuLogsNothing → OneVcpuTracesNothing
 one-traces sound logs = λ c ok own one script console t driven.
-    let is = events_of script c.setup.vcpus driven.rounds in
+    let is = events_of_script script c.setup.vcpus driven.rounds in
     let w = go_all (first_world c) is in
     let run = sound c ok is in
     let end : w.board.state.end ≡ Some t.end = ap (λ (s : State). s.end) run.state ∙ ap (λ k. (full c k).end) (sym driven.schedule) ∙ driven.sound.told.ended in

@@ -15,18 +15,18 @@ use Rattle.guest_input.specs.declared.image.Start.{Start}
 use Rattle.guest_input.specs.Accepted.{IsImage, IsStarts, offsets_of, starts_of}
 use Rattle.guest_input.specs.Starts.{is_same}
 use Rattle.guest_input.specs.Text.{bytes_of, flat_of, spans_of}
-use Rattle.function_table.specs.Groups.{Groups, function_at, group_at, group_in, groups_count, groups_of, in_text, is_closed}
+use Rattle.function_table.specs.Groups.{Groups, function_at, group_at, group_in, groups_count, groups_of, in_groups_text, is_closed}
 use Rattle.chain_log.specs.declared.entry.LogEntry.{LogEntry}
 use Rattle.view_file.specs.declared.views.App.{App}
 use Rattle.view_file.specs.declared.views.Views.{Views}
-use Rattle.view_file.specs.Base.{functions_of, group_of_start, holds_one, is_based, listed_for}
+use Rattle.view_file.specs.Base.{functions_of_app, group_of_start, holds_one, is_based, listed_for}
 use Rattle.view_file.specs.Least.{contains}
-use Rattle.view_file.specs.Named.{position_of, view_at as view_of_place, view_named}
+use Rattle.view_file.specs.Named.{position_of, view_of_position as view_of_place, view_named}
 use Rattle.guest_board.specs.Board.{State, depth_of, name_of}
-use Rattle.run_evidence.specs.Config.{Config, IsConfig, IsLawful, fetched_at, full_at, groups_in, is_base, view_at}
+use Rattle.run_evidence.specs.Config.{Config, IsConfig, IsLawfulSchedule, fetched_at, full_at, image_groups, is_base, view_at}
 use Rattle.run_evidence.specs.Evidence.{IsJustified, chain_in}
 use Rattle.guest_runs.specs.Log.{JustifiedEntriesArePrintable}
-use Rattle.profiler.specs.Profile.{FetchesFrom, IsProfile, IsShared, IsUsedUnder, start_of, unviewed}
+use Rattle.profiler.specs.Profile.{FetchesFrom, IsProfile, IsUsedInTrap, IsUsedUnder, start_of, unviewed}
 use Rattle.vcpu_core.specs.Undisturbed.{IsCovered}
 use Rattle.profile_laws.proofs.Groups.{start-same}
 
@@ -52,9 +52,9 @@ holder-within i p good =
     let most = count_by-le-length (λ start. leb start (offset_in (groups_of i).text p)) functions in
     omega (arith, some, long, most)
 
-holder-starts : (i : Image) (p : ℕ) → IsImage i → in_text (groups_of i) p ≡ true → start_of i p ≡ Some (holder i p)
+holder-starts : (i : Image) (p : ℕ) → IsImage i → in_groups_text (groups_of i) p ≡ true → start_of i p ≡ Some (holder i p)
 holder-starts i p good inside =
-    cond-true (in_text (groups_of i) p) (slice_get (starts_of i.functions) (function_at (groups_of i) p)) None inside
+    cond-true (in_groups_text (groups_of i) p) (slice_get (starts_of i.functions) (function_at (groups_of i) p)) None inside
     ∙ slice_get-get_or (starts_of i.functions) (function_at (groups_of i) p) no_start (holder-within i p good)
 
 -- the group of a place is that of the start of the function that holds it
@@ -85,24 +85,24 @@ holds-listed t (x ∷ xs) at g group listed =
       | false ↦ λ is rest. or_right (group_of_start t x == g) (holds_one t xs g) (holds-listed t xs at g group rest)
     ] refl listed
 
-functions-at : (apps : List App) (k : ℕ) (d : App) → k < length apps → functions_of apps k ≡ (get_or apps k d).functions
+functions-at : (apps : List App) (k : ℕ) (d : App) → k < length apps → functions_of_app apps k ≡ (get_or apps k d).functions
 functions-at [] k d within = absurd (omega (arith, within))
 functions-at (app ∷ apps) zero d within = refl
 functions-at (app ∷ apps) (suc k) d within = functions-at apps k d (omega (arith, within))
 
 holds-shared : (t : Groups) (v : Views) (number g : ℕ) → holds_one t v.shared g ≡ true → is_based v t number g ≡ true
 holds-shared t v number g holds =
-    let functions = functions_of v.apps (number - 1) in
+    let functions = functions_of_app v.apps (number - 1) in
     or_right (number == 0) (holds_one t (listed_for v number) g)
     (list_any-append (λ at. group_of_start t at == g) functions v.shared ∙ or_right (holds_one t functions g) (holds_one t v.shared g) holds)
 
-holds-own : (t : Groups) (v : Views) (k g : ℕ) → holds_one t (functions_of v.apps k) g ≡ true → is_based v t (k + 1) g ≡ true
+holds-own : (t : Groups) (v : Views) (k g : ℕ) → holds_one t (functions_of_app v.apps k) g ≡ true → is_based v t (k + 1) g ≡ true
 holds-own t v k g holds =
     let same : k + 1 - 1 ≡ k = omega arith in
     or_right (k + 1 == 0) (holds_one t (listed_for v (k + 1)) g)
-    (ap (λ n. holds_one t (functions_of v.apps n ++ v.shared) g) same
-    ∙ list_any-append (λ at. group_of_start t at == g) (functions_of v.apps k) v.shared
-    ∙ or_left (holds_one t (functions_of v.apps k) g) (holds_one t v.shared g) holds)
+    (ap (λ n. holds_one t (functions_of_app v.apps n ++ v.shared) g) same
+    ∙ list_any-append (λ at. group_of_start t at == g) (functions_of_app v.apps k) v.shared
+    ∙ or_left (holds_one t (functions_of_app v.apps k) g) (holds_one t v.shared g) holds)
 
 full-view : (t : Groups) (v : Views) (g : ℕ) → is_based v t 0 g ≡ true
 full-view t v g = refl
@@ -113,7 +113,7 @@ record HasFetched (c : Config) (h : List ℕ) (t p : ℕ) : Type 0 where
   profile : IsProfile (unviewed c.image c.setup) h c.views
   within : t < length h
   next : fetched_at c h t ≡ Some p
-  inside : in_text (groups_in c) p ≡ true
+  inside : in_groups_text (image_groups c) p ≡ true
 
 module _ (c : Config) (h : List ℕ) (t p : ℕ) (f : HasFetched c h t p) where
   abbrev s : State
@@ -126,17 +126,17 @@ module _ (c : Config) (h : List ℕ) (t p : ℕ) (f : HasFetched c h t p) where
   at = holder c.image p
 
   abbrev g : ℕ
-  g = group_at (groups_in c) p
+  g = group_at (image_groups c) p
 
   from : FetchesFrom c.image at s i
   from = record { place = p; next = f.next; start = holder-starts c.image p f.config.image f.inside }
 
-  in-trap : 0 < depth_of s i → is_based c.views (groups_in c) (view_at c h t) g ≡ true
+  in-trap : 0 < depth_of s i → is_based c.views (image_groups c) (view_at c h t) g ≡ true
   in-trap deep =
-      let step : IsShared (unviewed c.image c.setup) h at = record { step = t; within = f.within; is = record { fetches = from; inside_trap = deep } } in
-      holds-shared (groups_in c) c.views (view_at c h t) g (holds-listed (groups_in c) c.views.shared at g (holder-group c.image p f.config.image) ((f.profile.shared.members at).1 step))
+      let step : IsUsedInTrap (unviewed c.image c.setup) h at = record { step = t; within = f.within; is = record { fetches = from; inside_trap = deep } } in
+      holds-shared (image_groups c) c.views (view_at c h t) g (holds-listed (image_groups c) c.views.shared at g (holder-group c.image p f.config.image) ((f.profile.shared.members at).1 step))
 
-  under-app : (name : List ℕ) (k : ℕ) → depth_of s i ≡ 0 → name_of s i ≡ Some name → position_of name c.views.apps ≡ Some k → is_based c.views (groups_in c) (k + 1) g ≡ true
+  under-app : (name : List ℕ) (k : ℕ) → depth_of s i ≡ 0 → name_of s i ≡ Some name → position_of name c.views.apps ≡ Some k → is_based c.views (image_groups c) (k + 1) g ≡ true
   under-app name k outside named found =
       let app = get_or c.views.apps k no_app in
       let place = position-Some (λ (app : App). bytes_eq app.name name) c.views.apps k no_app found in
@@ -144,43 +144,43 @@ module _ (c : Config) (h : List ℕ) (t p : ℕ) (f : HasFetched c h t p) where
       let step : IsUsedUnder (unviewed c.image c.setup) h app.name at =
       record { step = t; within = f.within; is = record { fetches = from; named = named ∙ ap (λ (n : List ℕ). Some n) (sym same); outside_traps = outside } } in
       let listed = ((f.profile.apps k no_app place.0).members at).1 step in
-      let holds = holds-listed (groups_in c) app.functions at g (holder-group c.image p f.config.image) listed in
-      holds-own (groups_in c) c.views k g (ap (λ fs. holds_one (groups_in c) fs g) (functions-at c.views.apps k no_app place.0) ∙ holds)
+      let holds = holds-listed (image_groups c) app.functions at g (holder-group c.image p f.config.image) listed in
+      holds-own (image_groups c) c.views k g (ap (λ fs. holds_one (image_groups c) fs g) (functions-at c.views.apps k no_app place.0) ∙ holds)
 
-  under-place : (name : List ℕ) (o : Option ℕ) → depth_of s i ≡ 0 → name_of s i ≡ Some name → position_of name c.views.apps ≡ o → is_based c.views (groups_in c) (view_of_place o) g ≡ true
+  under-place : (name : List ℕ) (o : Option ℕ) → depth_of s i ≡ 0 → name_of s i ≡ Some name → position_of name c.views.apps ≡ o → is_based c.views (image_groups c) (view_of_place o) g ≡ true
   under-place name None outside named found = refl
   under-place name (Some k) outside named found = under-app name k outside named found
 
-  under-name : (o : Option (List ℕ)) → depth_of s i ≡ 0 → name_of s i ≡ o → is_based c.views (groups_in c) (view_named c.views o) g ≡ true
+  under-name : (o : Option (List ℕ)) → depth_of s i ≡ 0 → name_of s i ≡ o → is_based c.views (image_groups c) (view_named c.views o) g ≡ true
   under-name None outside named = refl
   under-name (Some name) outside named = under-place name (position_of name c.views.apps) outside named refl
 
-  by-depth : (d : ℕ) → depth_of s i ≡ d → is_based c.views (groups_in c) (view_at c h t) g ≡ true
+  by-depth : (d : ℕ) → depth_of s i ≡ d → is_based c.views (image_groups c) (view_at c h t) g ≡ true
   by-depth zero e = under-name (name_of s i) e refl
   by-depth (suc d) e = in-trap (omega (arith, e))
 
   based : is_base c (view_at c h t) g ≡ true
   based =
-      let few = count_by-le-length (λ start. leb start (offset_in (groups_in c).text p)) (groups_in c).starts in
-      get_or-map-range_with_len (is_based c.views (groups_in c) (view_at c h t)) 0 (groups_count (groups_in c)) g g false (omega (arith, few)) (omega arith)
+      let few = count_by-le-length (λ start. leb start (offset_in (image_groups c).text p)) (image_groups c).starts in
+      get_or-map-range_with_len (is_based c.views (image_groups c) (view_at c h t)) 0 (groups_count (image_groups c)) g g false (omega (arith, few)) (omega arith)
       ∙ by-depth (depth_of s i) refl
 
 -- a place that is fetched without being in the base would be logged, and so it is in text
-missing-inside : (c : Config) (h : List ℕ) (t p : ℕ) → JustifiedEntriesArePrintable → IsConfig c → IsLawful c h → t < length h → fetched_at c h t ≡ Some p
-    → is_base c (view_at c h t) (group_at (groups_in c) p) ≡ false → in_text (groups_in c) p ≡ true
+missing-inside : (c : Config) (h : List ℕ) (t p : ℕ) → JustifiedEntriesArePrintable → IsConfig c → IsLawfulSchedule c h → t < length h → fetched_at c h t ≡ Some p
+    → is_base c (view_at c h t) (group_at (image_groups c) p) ≡ false → in_groups_text (image_groups c) p ≡ true
 missing-inside c h t p printable good lawful within next missing =
     let s = full_at c h t in
     let i = slice_index h t in
-    let e : LogEntry = record { view = view_at c h t; group = group_at (groups_in c) p; vcpu = i; at = t; pc = p; chain = record { items = chain_in s i } } in
+    let e : LogEntry = record { view = view_at c h t; group = group_at (image_groups c) p; vcpu = i; at = t; pc = p; chain = record { items = chain_in s i } } in
     let justified : IsJustified c h e = record { early = omega (arith, within); may_step = lawful t within; next = next; view = refl; group = refl; missing = missing; chain = refl } in
     (printable c good h (e ∷ []) (justified, tt) 0 e (omega arith)).pc
 
-pub covered : (c : Config) (h : List ℕ) → JustifiedEntriesArePrintable → IsConfig c → IsLawful c h → IsProfile (unviewed c.image c.setup) h c.views → IsCovered c h
+pub covered : (c : Config) (h : List ℕ) → JustifiedEntriesArePrintable → IsConfig c → IsLawfulSchedule c h → IsProfile (unviewed c.image c.setup) h c.views → IsCovered c h
 covered c h printable good lawful profile = λ t p within next.
-    elim (is_base c (view_at c h t) (group_at (groups_in c) p)) as (λ b. is_base c (view_at c h t) (group_at (groups_in c) p) ≡ b → b ≡ true) [
+    elim (is_base c (view_at c h t) (group_at (image_groups c) p)) as (λ b. is_base c (view_at c h t) (group_at (image_groups c) p) ≡ b → b ≡ true) [
       | true ↦ λ is. refl
       | false ↦ λ is.
           let inside = missing-inside c h t p printable good lawful within next is in
           let here = based c h t p (record { config = good; profile = profile; within = within; next = next; inside = inside }) in
-          absurd (both_ways (is_base c (view_at c h t) (group_at (groups_in c) p)) is here)
+          absurd (both_ways (is_base c (view_at c h t) (group_at (image_groups c) p)) is here)
     ] refl

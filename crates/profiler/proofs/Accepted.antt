@@ -11,7 +11,7 @@ use Rattle.guest_input.specs.declared.image.Start.{Start}
 use Rattle.guest_input.specs.Accepted.{IsImage, starts_of}
 use Rattle.guest_input.specs.Starts.{is_same}
 use Rattle.guest_input.specs.Text.{IsStartIn, flat_of, spans_of}
-use Rattle.function_table.specs.Groups.{function_at, groups_of, has_start, in_text, is_function}
+use Rattle.function_table.specs.Groups.{function_at, groups_of, has_start, in_groups_text, is_function}
 use Rattle.view_file.specs.declared.views.TheConstants.{APPS_MOST}
 use Rattle.view_file.specs.declared.views.App.{App}
 use Rattle.view_file.specs.declared.views.Views.{Views}
@@ -19,7 +19,7 @@ use Rattle.view_file.specs.Base.{all_listed}
 use Rattle.view_file.specs.Fits.{IsViewsFor}
 use Rattle.view_file.specs.Least.{contains}
 use Rattle.run_evidence.specs.Config.{Config}
-use Rattle.profiler.specs.Profile.{AreAll, FetchesFrom, IsAppOf, IsProfile, start_of}
+use Rattle.profiler.specs.Profile.{AreAll, FetchesFrom, IsAppOfSchedule, IsProfile, start_of}
 use Rattle.profiler.specs.Seen.{IsViewsFrom}
 use Rattle.profiler.specs.Tally.{IsTally}
 use Rattle.profiler.specs.declared.tally.Tally.{Tally}
@@ -49,7 +49,7 @@ found-all P (s ∷ ss) (suc n) at all is = found-all P ss n at (λ k d within. a
 
 -- the start of the function that holds a place is that of a function
 pub start-known : (i : Image) → IsImage i → (place : ℕ) (at : Start) → start_of i place ≡ Some at → is_function (groups_of i) at ≡ true
-start-known i image place at is = elim (in_text (groups_of i) place) as (λ b. (if b then slice_get (starts_of i.functions) (function_at (groups_of i) place) else None) ≡ Some at → is_function (groups_of i) at ≡ true) [
+start-known i image place at is = elim (in_groups_text (groups_of i) place) as (λ b. (if b then slice_get (starts_of i.functions) (function_at (groups_of i) place) else None) ≡ Some at → is_function (groups_of i) at ≡ true) [
   | true ↦ λ e.
       let n : ℕ = function_at (groups_of i) place in
       let inside : IsStartIn (spans_of i.ranges) at = found-all (IsStartIn (spans_of i.ranges)) (starts_of i.functions) n at image.inside e in
@@ -86,7 +86,7 @@ accepted c image h t v is from profile =
     let apps : list_all (is_function (groups_of c.image)) (flat_map (λ (app : App). app.functions) v.apps) ≡ true =
     apps-pass (is_function (groups_of c.image)) v.apps (λ k d within.
     each-passes (is_function (groups_of c.image)) (slice_index_or v.apps k d).functions
-    (λ at e. let app : IsAppOf c h (slice_index_or v.apps k d) = profile.apps k d within in let some = (app.members at).0 e in start-known c.image image some.is.fetches.place at some.is.fetches.start)) in
+    (λ at e. let app : IsAppOfSchedule c h (slice_index_or v.apps k d) = profile.apps k d within in let some = (app.members at).0 e in start-known c.image image some.is.fetches.place at some.is.fetches.start)) in
     let long : length v.apps ≡ length from.found = length_permutation from.found v.apps from.order in
     let each = from.apps.long in let few = is.few in
     record {

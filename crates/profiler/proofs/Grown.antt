@@ -18,8 +18,8 @@ use Rattle.guest_input.specs.Starts.{start_cmp, is_same}
 use Rattle.guest_board.specs.Board.{State, name_of, depth_of, next_of}
 use Rattle.run_evidence.specs.Config.{Config, full, full_at}
 use Rattle.view_file.specs.declared.views.TheConstants.{APPS_MOST}
-use Rattle.profiler.specs.Profile.{SomeStep, FetchesFrom, FetchesUnder, FetchesInTrap, IsMet, IsShared, IsUsedUnder, start_of}
-use Rattle.profiler.specs.Tally.{IsTally, HasAll, AddsStart, AddsListed, AddsPlace, AddsFetch, set_of, no_starts, has_name, position_of, listed_by, listed_under, under, start_next}
+use Rattle.profiler.specs.Profile.{SomeStep, FetchesFrom, FetchesUnder, FetchesInTrap, IsMet, IsUsedInTrap, IsUsedUnder, start_of}
+use Rattle.profiler.specs.Tally.{IsTally, HasAll, AddsStart, AddsListed, AddsPlace, AddsFetch, set_of, no_starts, has_name, position_of_name, listed_by, listed_by_name, under, start_next}
 use Rattle.profiler.specs.declared.tally.Tally.{Tally}
 use Rattle.profiler.specs.declared.tally.Listed.{Listed}
 use Rattle.profiler.specs.declared.tally.Listed.TheVariants.{Shared, Under, Nowhere}
@@ -79,7 +79,7 @@ next-fetch image q s i e = elim (next_of s i) as (λ o. next_of s i ≡ o → op
 
 -- the tally after the fetch of a step, and before its name
 pub record IsBetween (c : Config) (h : List ℕ) (i : ℕ) (t : Tally) : Type 0 where
-  pub shared : HasAll (IsShared c (h ++ i ∷ [])) t.shared
+  pub shared : HasAll (IsUsedInTrap c (h ++ i ∷ [])) t.shared
   pub long : length t.used.items ≡ length t.names.items
   pub used : (k : ℕ) → k < length t.names.items → HasAll (IsUsedUnder c (h ++ i ∷ []) (slice_index_or t.names.items k [])) (set_of t.used.items k)
 
@@ -140,7 +140,7 @@ module _ (c : Config) (h : List ℕ) (i : ℕ) (t : Tally) (is : IsTally c h t) 
         (λ q f. absurd (let none = f.outside_traps in omega (arith, deep, none))));
   }
 
-  shared-kept : depth_of now i ≡ 0 → HasAll (IsShared c (h ++ i ∷ [])) t.shared
+  shared-kept : depth_of now i ≡ 0 → HasAll (IsUsedInTrap c (h ++ i ∷ [])) t.shared
   shared-kept shallow = kept c h i (FetchesInTrap c.image) t.shared is.shared (λ q f. let deep = f.inside_trap in omega (arith, shallow, deep))
 
   -- one outside traps, without a name
@@ -153,7 +153,7 @@ module _ (c : Config) (h : List ℕ) (i : ℕ) (t : Tally) (is : IsTally c h t) 
 
   -- one under the name at a place
   under-name : (at : Start) (u : Tally) (a : ℕ) (name : List ℕ) → start_next c.image now i ≡ Some at → depth_of now i ≡ 0 → name_of now i ≡ Some name
-      → position_of t.names.items name ≡ Some a → AddsListed t (Under a) at u → IsBetween c h i u
+      → position_of_name t.names.items name ≡ Some a → AddsListed t (Under a) at u → IsBetween c h i u
   under-name at u a name next shallow named place adds =
       let found = position-Some (λ other. bytes_eq other name) t.names.items a [] place in
       let same : slice_index_or t.names.items a [] ≡ name = (bytes_eq-Decides _ _).0 found.1 in
@@ -178,16 +178,16 @@ module _ (c : Config) (h : List ℕ) (i : ℕ) (t : Tally) (is : IsTally c h t) 
             differ t.names.items a k name found.0 within other (λ x y low high. apart_from_distinct bytes_eq t.names.items x y [] is.once low high) found.1 equal))
       ] refl in
       record {
-        shared = subst (HasAll (IsShared c (h ++ i ∷ []))) (sym adds.4) (shared-kept shallow);
+        shared = subst (HasAll (IsUsedInTrap c (h ++ i ∷ []))) (sym adds.4) (shared-kept shallow);
         long = ap length adds.2 ∙ length-set t.used.items a adds.0 ∙ is.long ∙ ap length (sym names);
         used = rw (names, adds.2) sets_at;
       }
 
   at-depth-0 : (u : Tally) (at : Start) (o : Option (List ℕ)) → start_next c.image now i ≡ Some at → depth_of now i ≡ 0 → name_of now i ≡ o
-      → AddsListed t (listed_under t.names.items o) at u → IsBetween c h i u
+      → AddsListed t (listed_by_name t.names.items o) at u → IsBetween c h i u
   at-depth-0 u at None next shallow named adds = subst (IsBetween c h i) (sym adds) (nameless shallow named)
   at-depth-0 u at (Some name) next shallow named adds =
-      elim (position_of t.names.items name) as (λ o. position_of t.names.items name ≡ o → AddsListed t (under o) at u → IsBetween c h i u) [
+      elim (position_of_name t.names.items name) as (λ o. position_of_name t.names.items name ≡ o → AddsListed t (under o) at u → IsBetween c h i u) [
         | None ↦ λ e z. absurd (position-none (λ other. bytes_eq other name) t.names.items e
             (is.known (length h) i name (omega arith) (ap (λ x. name_of x i) (state-now c h) ∙ named)))
         | Some a ↦ λ e z. under-name at u a name next shallow named e z
@@ -195,7 +195,7 @@ module _ (c : Config) (h : List ℕ) (i : ℕ) (t : Tally) (is : IsTally c h t) 
 
   some-start : (u : Tally) (at : Start) → start_next c.image now i ≡ Some at → AddsListed t (listed_by t.names.items (name_of now i) (depth_of now i)) at u → IsBetween c h i u
   some-start u at next adds =
-      elim (depth_of now i == 0) as (λ b. (depth_of now i == 0) ≡ b → AddsListed t (if b then listed_under t.names.items (name_of now i) else Shared) at u → IsBetween c h i u) [
+      elim (depth_of now i == 0) as (λ b. (depth_of now i == 0) ≡ b → AddsListed t (if b then listed_by_name t.names.items (name_of now i) else Shared) at u → IsBetween c h i u) [
         | true ↦ λ e z. at-depth-0 u at (name_of now i) next (grind (arith, nat_tests, e)) refl z
         | false ↦ λ e z. in-trap at u next (grind (arith, nat_tests, e)) z
       ] refl adds

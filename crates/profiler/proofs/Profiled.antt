@@ -25,8 +25,8 @@ use Rattle.view_file.specs.Fits.{AreOrdered}
 use Rattle.view_file.specs.Least.{contains}
 use Rattle.view_file.specs.Union.{has_app}
 use Rattle.run_evidence.specs.Config.{Config}
-use Rattle.profiler.specs.Profile.{AreAll, IsAppOf, IsMet, IsProfile, IsShared, IsUsedUnder, Profiles, unviewed}
-use Rattle.profiler.specs.Seen.{AreAppsOf, IsAppFrom, IsListOf, IsViewsFrom}
+use Rattle.profiler.specs.Profile.{AreAll, IsAppOfSchedule, IsMet, IsProfile, IsUsedInTrap, IsUsedUnder, Profiles, unviewed}
+use Rattle.profiler.specs.Seen.{AreAppsOfSets, IsAppFrom, IsListOf, IsViewsFrom}
 use Rattle.profiler.specs.Tally.{HasAll, IsTally, Runs, has_name, set_of}
 use Rattle.profiler.specs.declared.profile.ProfileFault.{ProfileFault}
 use Rattle.profiler.specs.declared.profile.ProfileFault.TheVariants.{TooManyApps, NoMemory}
@@ -59,14 +59,14 @@ has-names : (found : List App) (name : List ℕ) → has_app found name ≡ has_
 has-names [] name = refl
 has-names (a ∷ more) name = ap (λ b. bytes_eq a.name name || b) (has-names more name)
 
-pub names-found : (names : List (List ℕ)) (used : List (BTreeSet Start)) (found : List App) → AreAppsOf names used found → map (λ (a : App). a.name) found ≡ names
+pub names-found : (names : List (List ℕ)) (used : List (BTreeSet Start)) (found : List App) → AreAppsOfSets names used found → map (λ (a : App). a.name) found ≡ names
 names-found names used found apps = same-names names found apps.long (λ k d within. (apps.each k d within).named)
 
 pub is-profile : (c : Config) (h : List ℕ) (t : Tally) (v : Views) → IsTally c h t → IsViewsFrom c.image t v → IsProfile c h v
 is-profile c h t v is from = record {
   text = from.text;
-  shared = all-listed (IsShared c h) t.shared v.shared is.shared from.shared;
-  apps = All-permutation (IsAppOf c h) from.found v.apps from.order (λ k d within.
+  shared = all-listed (IsUsedInTrap c h) t.shared v.shared is.shared from.shared;
+  apps = All-permutation (IsAppOfSchedule c h) from.found v.apps from.order (λ k d within.
       let inside : k < length t.names.items = let long = from.apps.long in omega (arith, long, within) in
       let app = from.apps.each k d inside in
       subst (λ n. AreAll (IsUsedUnder c h n) (slice_index_or from.found k d).functions) (sym app.named)

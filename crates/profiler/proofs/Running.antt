@@ -25,7 +25,7 @@ use Rattle.run_evidence.specs.Config.{Config, full, full_at, rules_in}
 use Rattle.run_evidence.specs.Growing.{BoardsMove, RunsAppend, board_of}
 use Rattle.view_file.specs.declared.views.TheConstants.{APPS_MOST}
 use Rattle.profiler.specs.RoundRobin.{IsNextInTurn, TakesTurns, vcpu_before}
-use Rattle.profiler.specs.Profile.{start_of, SomeStep, FetchesInTrap, FetchesUnder, IsNamedNext, IsShared, IsUsedUnder, IsMet, IsOverfull, MeetsTooMany, unviewed}
+use Rattle.profiler.specs.Profile.{start_of, SomeStep, FetchesInTrap, FetchesUnder, IsNamedNext, IsUsedInTrap, IsUsedUnder, IsMet, IsOverfull, MeetsTooMany, unviewed}
 use Rattle.profiler.specs.Tally.{AddsPlace, listed_by, start_next, IsTally, HasAll, AddsFetch, AddsName, AddsStep, IsLonger, IsTooMuch, IsTooMuchAfter, Runs, has_name, no_starts, set_of}
 use Rattle.profiler.specs.Turning.{IsTurning}
 use Rattle.profiler.specs.declared.profile.ProfileFault.{ProfileFault}
@@ -154,8 +154,8 @@ module _ (image : Image) (setup : Setup) (u : Tally) (shared : u.shared ≡ no_s
   abbrev c : Config
   c = unviewed image setup
 
-  none-shared : HasAll (IsShared c []) u.shared
-  none-shared = subst (HasAll (IsShared c [])) (sym shared) (no-members (IsShared c []) (λ q. none-yet c (FetchesInTrap image q)))
+  none-shared : HasAll (IsUsedInTrap c []) u.shared
+  none-shared = subst (HasAll (IsUsedInTrap c [])) (sym shared) (no-members (IsUsedInTrap c []) (λ q. none-yet c (FetchesInTrap image q)))
 
   no-start : setup.start ≡ None → u.names.items ≡ [] → u.used.items ≡ [] → IsTally c [] u
   no-start e un uu = record {

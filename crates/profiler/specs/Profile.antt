@@ -11,7 +11,7 @@ use Rattle.guest_input.specs.declared.image.Start.{Start}
 use Rattle.guest_input.specs.declared.setup.Setup.{Setup}
 use Rattle.guest_input.specs.Accepted.{starts_of}
 use Rattle.guest_input.specs.Starts.{start_cmp}
-use Rattle.function_table.specs.Groups.{function_at, groups_of, in_text}
+use Rattle.function_table.specs.Groups.{function_at, groups_of, in_groups_text}
 use Rattle.view_file.specs.declared.views.TheConstants.{APPS_MOST}
 use Rattle.view_file.specs.declared.views.App.{App}
 use Rattle.view_file.specs.declared.views.Views.{Views}
@@ -33,7 +33,7 @@ pub record SomeStep (c : Config) (schedule : List ℕ) (Is : State → ℕ → T
 
 -- the start of the function that holds a place of text
 abbrev pub start_of : Image → ℕ → Option Start
-start_of image place = if in_text (groups_of image) place then slice_get (starts_of image.functions) (function_at (groups_of image) place) else None
+start_of image place = if in_groups_text (groups_of image) place then slice_get (starts_of image.functions) (function_at (groups_of image) place) else None
 
 -- the next step of vCPU i fetches a place of the function that starts there
 pub record FetchesFrom (image : Image) (at : Start) (s : State) (i : ℕ) : Type 0 where
@@ -63,8 +63,8 @@ IsMet c schedule name = (c.setup.start ≡ Some name) ⊎ SomeStep c schedule (I
 abbrev pub IsUsedUnder : Config → List ℕ → List ℕ → Start → Type 0
 IsUsedUnder c schedule name at = SomeStep c schedule (FetchesUnder c.image name at)
 
-abbrev pub IsShared : Config → List ℕ → Start → Type 0
-IsShared c schedule at = SomeStep c schedule (FetchesInTrap c.image at)
+abbrev pub IsUsedInTrap : Config → List ℕ → Start → Type 0
+IsUsedInTrap c schedule at = SomeStep c schedule (FetchesInTrap c.image at)
 
 -- exactly the starts of which this holds, each once, in order
 pub record AreAll (Is : Start → Type 0) (starts : List Start) : Type 0 where
@@ -72,14 +72,14 @@ pub record AreAll (Is : Start → Type 0) (starts : List Start) : Type 0 where
   pub members : (at : Start) → (contains starts at ≡ true) ↔ Is at
 
 -- the app has the functions that were used under its name
-abbrev pub IsAppOf : Config → List ℕ → App → Type 0
-IsAppOf c schedule app = AreAll (IsUsedUnder c schedule app.name) app.functions
+abbrev pub IsAppOfSchedule : Config → List ℕ → App → Type 0
+IsAppOfSchedule c schedule app = AreAll (IsUsedUnder c schedule app.name) app.functions
 
 -- these views are the profile of the schedule
 pub record IsProfile (c : Config) (schedule : List ℕ) (v : Views) : Type 0 where
   pub text : v.text ≡ c.image.digest
-  pub shared : AreAll (IsShared c schedule) v.shared
-  pub apps : All (IsAppOf c schedule) v.apps
+  pub shared : AreAll (IsUsedInTrap c schedule) v.shared
+  pub apps : All (IsAppOfSchedule c schedule) v.apps
   pub names : (name : List ℕ) → (has_app v.apps name ≡ true) ↔ IsMet c schedule name
   pub ordered : AreOrdered v.apps
 

@@ -22,7 +22,7 @@ pub record IsAppFrom (name : List ℕ) (set : BTreeSet Start) (app : App) : Type
   pub functions : IsListOf set app.functions
 
 -- an app for each name, with the functions of its set
-pub record AreAppsOf (names : List (List ℕ)) (used : List (BTreeSet Start)) (apps : List App) : Type 0 where
+pub record AreAppsOfSets (names : List (List ℕ)) (used : List (BTreeSet Start)) (apps : List App) : Type 0 where
   pub long : length apps ≡ length names
   pub each : (k : ℕ) (d : App) → k < length names → IsAppFrom (slice_index_or names k []) (set_of used k) (slice_index_or apps k d)
 
@@ -31,6 +31,6 @@ pub record IsViewsFrom (image : Image) (t : Tally) (v : Views) : Type 0 where
   pub text : v.text ≡ image.digest
   pub shared : IsListOf t.shared v.shared
   pub found : List App
-  pub apps : AreAppsOf t.names.items t.used.items found
+  pub apps : AreAppsOfSets t.names.items t.used.items found
   pub order : IsPermutation found v.apps
   pub ascending : AreOrdered v.apps

@@ -11,7 +11,7 @@ use Rattle.guest_input.specs.Starts.{start_cmp}
 use Rattle.view_file.specs.declared.views.TheConstants.{APPS_MOST}
 use Rattle.guest_board.specs.Board.{State, depth_of, name_of, next_of}
 use Rattle.run_evidence.specs.Config.{Config, full_at}
-use Rattle.profiler.specs.Profile.{IsOverfull, IsMet, IsShared, IsUsedUnder, start_of}
+use Rattle.profiler.specs.Profile.{IsOverfull, IsMet, IsUsedInTrap, IsUsedUnder, start_of}
 use Rattle.profiler.specs.RoundRobin.{IsRoundRobin}
 use Rattle.profiler.specs.declared.profile.ProfileFault.{ProfileFault}
 use Rattle.profiler.specs.declared.profile.ProfileFault.TheVariants.{TooManyApps, NoMemory}
@@ -22,8 +22,8 @@ use Rattle.profiler.specs.declared.tally.Tally.{Tally}
 abbrev pub has_name : List (List ℕ) → List ℕ → Bool
 has_name names name = list_any (λ other. bytes_eq other name) names
 
-abbrev pub position_of : List (List ℕ) → List ℕ → Option ℕ
-position_of names name = position (λ other. bytes_eq other name) names
+abbrev pub position_of_name : List (List ℕ) → List ℕ → Option ℕ
+position_of_name names name = position (λ other. bytes_eq other name) names
 
 -- the set has exactly the starts of which this holds
 abbrev pub HasAll : (Start → Type 0) → BTreeSet Start → Type 0
@@ -37,7 +37,7 @@ set_of used k = slice_index_or used k no_starts
 
 -- the tally of a schedule
 pub record IsTally (c : Config) (schedule : List ℕ) (t : Tally) : Type 0 where
-  pub shared : HasAll (IsShared c schedule) t.shared
+  pub shared : HasAll (IsUsedInTrap c schedule) t.shared
   pub long : length t.used.items ≡ length t.names.items
   pub used : (k : ℕ) → k < length t.names.items → HasAll (IsUsedUnder c schedule (slice_index_or t.names.items k [])) (set_of t.used.items k)
   pub once : IsDistinct bytes_eq t.names.items
@@ -49,13 +49,13 @@ abbrev pub under : Option ℕ → Listed
 under None = Nowhere
 under (Some n) = Under n
 
-abbrev pub listed_under : List (List ℕ) → Option (List ℕ) → Listed
-listed_under names None = Nowhere
-listed_under names (Some name) = under (position_of names name)
+abbrev pub listed_by_name : List (List ℕ) → Option (List ℕ) → Listed
+listed_by_name names None = Nowhere
+listed_by_name names (Some name) = under (position_of_name names name)
 
 -- where a function is listed that is fetched from under this name, or none, at this depth
 abbrev pub listed_by : List (List ℕ) → Option (List ℕ) → ℕ → Listed
-listed_by names name depth = if depth == 0 then listed_under names name else Shared
+listed_by names name depth = if depth == 0 then listed_by_name names name else Shared
 
 -- a name more, under which nothing was used yet
 pub record IsLonger (t : Tally) (name : List ℕ) (u : Tally) : Type 0 where

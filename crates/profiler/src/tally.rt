@@ -4,7 +4,7 @@ ghost use Rattle.std.specs.Prelude.{◌≡◌, ◌<◌, ◌≤◌, ℕ, Ok, Err,
 ghost use Rattle.guest_input.specs.Starts.{start_cmp};
 ghost use Rattle.view_file.specs.declared.views.TheConstants.{APPS_MOST};
 ghost use Rattle.profiler.specs.declared.profile.ProfileFault.TheVariants.{TooManyApps, NoMemory as memory};
-ghost use Rattle.profiler.specs.Tally.{AddsListed, AddsName, AddsStart, IsTooMuch, IsWithin, has_name, listed_by, no_starts, position_of};
+ghost use Rattle.profiler.specs.Tally.{AddsListed, AddsName, AddsStart, IsTooMuch, IsWithin, has_name, listed_by, no_starts, position_of_name};
 
 use crate::profile::ProfileFault;
 use fc_numbers::memory::NoMemory;
@@ -38,7 +38,7 @@ pub(crate) enum Listed {
 
 /// The place of a name, if it was met.
 fn position_of(names: &[Name], name: &Name) -> Option<usize>
-    ensures place { result ≡ position_of names.now name.now }
+    ensures place { result ≡ position_of_name names.now name.now }
     ensures within { IfSome result (λ at. at < length names.now) }
 {
     names.iter().position(|other| other.bytes() == name.bytes())

@@ -7,7 +7,7 @@
 #![tactic(auto)]
 
 ghost use Rattle.std.specs.Prelude.{◌≡◌, ◌<◌, true};
-ghost use Rattle.function_table.specs.Groups.{groups_count, in_text};
+ghost use Rattle.function_table.specs.Groups.{groups_count, in_groups_text};
 ghost use Rattle.recovery.specs.Recovery.{looked_of};
 
 use chain_log::entry::{LogEntry, Trapped};
@@ -23,7 +23,7 @@ pub struct Looked {
 
 /// Looks up the group of a trap's place, which is in text.
 pub fn look(table: &Table, t: Trapped) -> Looked
-    requires { in_text table.now t.pc ≡ true }
+    requires { in_groups_text table.now t.pc ≡ true }
     ensures value { result ≡ looked_of table.now t }
     ensures group { result.group < groups_count table.now }
 {

@@ -15,7 +15,7 @@ use Rattle.command_frame.specs.declared.product.Product.{Product}
 use Rattle.replay_command.specs.declared.comparison.Comparison.{Comparison}
 use Rattle.replay_command.specs.declared.comparison.Comparison.TheVariants.{Vcpus, Schedule, Ending, Memory}
 use Rattle.replay_command.specs.Comparisons.{differs, first_difference, run_compared, vcpus_compared}
-use Rattle.replay_command.specs.Replay.{IsReplay, IsSame, IsToldBy, Tells}
+use Rattle.replay_command.specs.Replay.{IsReplay, IsSame, IsProductOfDifference, Tells}
 use Rattle.replay_command.proofs.Vcpus.{behind, front}
 
 -- the first comparison differs, or the difference is among the others
@@ -77,7 +77,7 @@ module _ (s : State) (t : Told) (made : ℕ) (schedule : differs (Schedule made 
       sym (behind-values states same each e ∙ first-same (Memory (memory_digest s.ram) t.memory) [] (subst (λ d. differs (Memory d t.memory) ≡ false) is good))
 
 module _ (c : Config) (t : Told) (p : Product) where
-  pub vcpus-differ : EachHasLongest → differs (Vcpus c.setup.vcpus t.vcpus) ≡ true → IsToldBy (Vcpus c.setup.vcpus t.vcpus) p → IsReplay c t p
+  pub vcpus-differ : EachHasLongest → differs (Vcpus c.setup.vcpus t.vcpus) ≡ true → IsProductOfDifference (Vcpus c.setup.vcpus t.vcpus) p → IsReplay c t p
   vcpus-differ each e told =
       let l = each c t.schedule in
       record {
@@ -87,7 +87,7 @@ module _ (c : Config) (t : Told) (p : Product) where
       }
 
   module _ (made : ℕ) (longest : IsLongest c t.schedule made) (vcpus : differs (Vcpus c.setup.vcpus t.vcpus) ≡ false) where
-    pub run-differs : (x : Comparison) → Some x ≡ first_difference (run_compared (full c (take made t.schedule)) t made) → IsToldBy x p → IsReplay c t p
+    pub run-differs : (x : Comparison) → Some x ≡ first_difference (run_compared (full c (take made t.schedule)) t made) → IsProductOfDifference x p → IsReplay c t p
     run-differs x e told = record {
       made = made;
       longest = longest;

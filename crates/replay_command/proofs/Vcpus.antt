@@ -12,7 +12,7 @@ use Rattle.trace_file.specs.declared.state.State.{State as VcpuState}
 use Rattle.trace_file.specs.Values.{state_of}
 use Rattle.guest_board.specs.Board.{State}
 use Rattle.run_trace.specs.Told.{vcpu_state}
-use Rattle.replay_command.specs.Comparisons.{differs, first_difference, state_at, values_compared, vcpus_compared}
+use Rattle.replay_command.specs.Comparisons.{differs, first_difference, vcpu_state_at, values_compared, vcpus_compared}
 
 range-more : (a n : ℕ) → range_with_len a (n + 1) ≡ range_with_len a n ++ (a + n) ∷ []
 range-more a n = rw (add-one n) (more a n)
@@ -55,7 +55,7 @@ module _ (of : ℕ → List Comparison) where
 
 module _ (s : State) (states : List VcpuState) where
   abbrev own : ℕ → List Comparison
-  own i = values_compared i (vcpu_state s i) (state_at states i)
+  own i = values_compared i (vcpu_state s i) (vcpu_state_at states i)
 
   -- what was compared at a vCPU
   here : (i : ℕ) (left d : VcpuState) → left ≡ vcpu_state s i → i < length states → first_difference (values_compared i left (slice_index_or states i d)) ≡ first_difference (own i)

@@ -42,12 +42,12 @@ shown what left right = what ++ codes " " ++ left ++ codes " " ++ right
 abbrev pub value_text : ℕ → ℕ → List ℕ
 value_text vcpu number = codes "vcpu " ++ decimal vcpu ++ codes " " ++ unwrap_or (slice_get value_names number) []
 
-abbrev pub text_of : Comparison → List ℕ
-text_of (Vcpus left right) = shown (codes "vcpus") (decimal left) (decimal right)
-text_of (Schedule left right) = shown (codes "schedule") (decimal left) (decimal right)
-text_of (Ending left right) = shown (codes "end") (end_name left) (end_name (Some right))
-text_of (Value vcpu number left right) = shown (value_text vcpu number) (hex left) (hex right)
-text_of (Memory left right) = shown (codes "memory") (encode_lower left) (encode_lower right)
+abbrev pub text_of_comparison : Comparison → List ℕ
+text_of_comparison (Vcpus left right) = shown (codes "vcpus") (decimal left) (decimal right)
+text_of_comparison (Schedule left right) = shown (codes "schedule") (decimal left) (decimal right)
+text_of_comparison (Ending left right) = shown (codes "end") (end_name left) (end_name (Some right))
+text_of_comparison (Value vcpu number left right) = shown (value_text vcpu number) (hex left) (hex right)
+text_of_comparison (Memory left right) = shown (codes "memory") (encode_lower left) (encode_lower right)
 
 -- the number of a value is one that has a name
 abbrev pub IsNumbered : Comparison → Type 0
@@ -62,12 +62,12 @@ abbrev pub values_compared : ℕ → VcpuState → VcpuState → List Comparison
 values_compared vcpu left right = map (value_compared vcpu) (enumerate_from 0 (zip (values_of left) (values_of right)))
 
 -- the state that a list has at a place; past its end, one of zeros
-abbrev pub state_at : List VcpuState → ℕ → VcpuState
-state_at states i = slice_index_or states i (state_of [])
+abbrev pub vcpu_state_at : List VcpuState → ℕ → VcpuState
+vcpu_state_at states i = slice_index_or states i (state_of [])
 
 -- the values of so many vCPUs, one vCPU after another
 abbrev pub vcpus_compared : State → List VcpuState → ℕ → List Comparison
-vcpus_compared s states n = flat_map (λ i. values_compared i (vcpu_state s i) (state_at states i)) (range_with_len 0 n)
+vcpus_compared s states n = flat_map (λ i. values_compared i (vcpu_state s i) (vcpu_state_at states i)) (range_with_len 0 n)
 
 -- what is compared once so many steps have led to this state
 abbrev pub run_compared : State → Told → ℕ → List Comparison

@@ -1,7 +1,7 @@
 //! The first difference between a run and a trace.
 
 ghost use Rattle.std.specs.Prelude.{◌≡◌, ◌<◌, IfSome, length};
-ghost use Rattle.trace_file.specs.Trace.{told};
+ghost use Rattle.trace_file.specs.Trace.{told_of_trace};
 ghost use Rattle.replay_command.specs.Comparisons.{IsNumbered, first_difference, run_compared, values_compared, vcpus_compared};
 
 use crate::comparison::Comparison;
@@ -45,7 +45,7 @@ fn vcpu_difference(board: &Board, states: &[State]) -> Option<Comparison>
 pub fn run_difference(board: &Board, made: u32, trace: &Trace) -> Option<Comparison>
     requires vcpus { trace.now.vcpus ≡ length board.now.state.slots }
     requires states { length trace.now.states.items ≡ trace.now.vcpus }
-    ensures value { result ≡ first_difference (run_compared board.now.state (told trace.now) made) }
+    ensures value { result ≡ first_difference (run_compared board.now.state (told_of_trace trace.now) made) }
     ensures numbered { IfSome result IsNumbered }
 {
     let schedule = Comparison::Schedule {

@@ -4,7 +4,7 @@ ghost use Rattle.std.specs.Prelude.{◌≡◌, ◌++◌, IfOk, codes, string_byt
 ghost use Rattle.std.specs.Fmt.{decimal};
 ghost use Rattle.hex.specs.Hex.{encode_lower};
 ghost use Rattle.chain_log.specs.Line.{hex};
-ghost use Rattle.replay_command.specs.Comparisons.{IsNumbered, differs, end_name, shown, text_of};
+ghost use Rattle.replay_command.specs.Comparisons.{IsNumbered, differs, end_name, shown, text_of_comparison};
 
 use fc_numbers::machine::{End, Stop};
 use fc_numbers::memory::NoMemory;
@@ -105,7 +105,7 @@ impl Comparison {
     /// What is compared, and the two sides, with a space between them.
     pub fn text(&self, alloc: Global) -> Result<String, NoMemory>
         requires { IsNumbered self.now }
-        ensures { IfOk result (λ text. string_bytes text ≡ text_of self.now) }
+        ensures { IfOk result (λ text. string_bytes text ≡ text_of_comparison self.now) }
     {
         match self {
             Comparison::Vcpus { left, right } => {

@@ -3,13 +3,13 @@
 
 ghost use Rattle.std.specs.Prelude.{◌≡◌, ℕ, List, Option, Some, true, false, IfOk, map, string_bytes};
 ghost use Rattle.guest_input.specs.Accepted.{IsImage, IsSetupFor};
-ghost use Rattle.trace_file.specs.Trace.{told};
-ghost use Rattle.trace_file.specs.Lawful.{IsLawful};
-ghost use Rattle.full_run.specs.Replay.{runs_of};
-ghost use Rattle.command_frame.specs.Promise.{Told};
+ghost use Rattle.trace_file.specs.Trace.{told_of_trace};
+ghost use Rattle.trace_file.specs.Lawful.{IsLawfulTrace};
+ghost use Rattle.full_run.specs.Replay.{config_of_full_run};
+ghost use Rattle.command_frame.specs.Promise.{FileContents};
 ghost use Rattle.command_frame.specs.Command.{MakeSaid, MakeCounts, HasOutputs};
 ghost use Rattle.replay_command.specs.Comparisons.{IsNumbered};
-ghost use Rattle.replay_command.specs.Replay.{IsReplayForm, IsReplay, IsToldBy, replay_request};
+ghost use Rattle.replay_command.specs.Replay.{IsReplayForm, IsReplay, IsProductOfDifference, replay_request};
 
 use crate::compare::run_difference;
 use crate::comparison::Comparison;
@@ -48,7 +48,7 @@ pub fn is_replay(words: &[String]) -> bool
 /// What is made of a difference: its text, and no output.
 fn differing(alloc: Global, difference: &Comparison) -> Result<Product, NoMemory>
     requires { IsNumbered difference.now }
-    ensures { IfOk result (λ p. IsToldBy difference.now p) }
+    ensures { IfOk result (λ p. IsProductOfDifference difference.now p) }
 {
     let text = difference.text(alloc)?;
     Ok(Product {
@@ -62,8 +62,8 @@ fn differing(alloc: Global, difference: &Comparison) -> Result<Product, NoMemory
 fn replayed(alloc: Global, image: &Image, setup: &Setup, trace: &Trace) -> Result<Product, NoMemory>
     requires image { IsImage image.now }
     requires setup { IsSetupFor image.now setup.now }
-    requires trace { IsLawful (told trace.now) }
-    ensures { IfOk result (λ p. IsReplay (runs_of image.now setup.now) (told trace.now) p) }
+    requires trace { IsLawfulTrace (told_of_trace trace.now) }
+    ensures { IfOk result (λ p. IsReplay (config_of_full_run image.now setup.now) (told_of_trace trace.now) p) }
 {
     each_has_longest();
     runs_keep_vcpus();
@@ -93,7 +93,7 @@ pub fn make_replay<S: Store>(
     words: &[String],
     store: &mut S,
 ) -> Result<Product, Refusal>
-    ensures said { (told : Told) → S.files store.old ≡ Some told → MakeSaid (replay_request (map string_bytes words.now)) told result }
+    ensures said { (told_of_trace : FileContents) → S.files store.old ≡ Some told_of_trace → MakeSaid (replay_request (map string_bytes words.now)) told_of_trace result }
     ensures counted { MakeCounts (replay_request (map string_bytes words.now)) (S.reads store.old) (S.reads store.new) result }
     ensures outputs { HasOutputs (replay_request (map string_bytes words.now)) result }
     ensures files { S.files store.new ≡ S.files store.old }

@@ -1,8 +1,8 @@
 -- What `run IMAGE SETUP VIEWS TRACE LOG` promises, where it returns.
 -- The rule: one thread per vCPU, in whatever order they go on; the trace tells the run that came of it, and is sound.
 use Rattle.std.specs.Prelude.{◌≡◌, ℕ, List, [], ◌∷◌, codes}
-use Rattle.trace_file.specs.Trace.{Told, text_of}
-use Rattle.trace_file.specs.Lawful.{IsLawful as IsLawfulTrace}
+use Rattle.trace_file.specs.Trace.{Told, text_of_trace}
+use Rattle.trace_file.specs.Lawful.{IsLawfulTrace as IsLawfulTrace}
 use Rattle.run_evidence.specs.Config.{Config, IsConfig, full}
 use Rattle.run_trace.specs.Sound.{IsSoundTrace}
 use Rattle.guest_runs.specs.Log.{log_text}
@@ -31,7 +31,7 @@ pub record IsRunMade (c : Config) (p : Product) : Type 0 where
   pub lawful : IsConfig c
   pub trace : Told
   pub ran : IsCrewRun c trace p.out
-  pub files : p.files ≡ file_of 4 (text_of trace) ∷ file_of 5 (log_text c.image c.views trace.entries) ∷ []
+  pub files : p.files ≡ file_of 4 (text_of_trace trace) ∷ file_of 5 (log_text c.image c.views trace.entries) ∷ []
   pub ended : p.ended ≡ ended_of trace.end
 
 -- the places of the input files and of the output files in the words

@@ -3,9 +3,9 @@
 ghost use Rattle.std.specs.Prelude.{◌≡◌, ℕ, List, Option, Some, true, false, IfOk, map, string_bytes};
 ghost use Rattle.guest_input.specs.Accepted.{IsImage, IsSetupFor};
 ghost use Rattle.function_table.specs.Groups.{groups_of};
-ghost use Rattle.trace_file.specs.Trace.{told};
+ghost use Rattle.trace_file.specs.Trace.{told_of_trace};
 ghost use Rattle.view_file.specs.Fits.{IsViewsFor};
-ghost use Rattle.command_frame.specs.Promise.{Told};
+ghost use Rattle.command_frame.specs.Promise.{FileContents};
 ghost use Rattle.command_frame.specs.Command.{MakeSaid, MakeCounts, HasOutputs};
 ghost use Rattle.command_frame.specs.declared.product.Written.{Written};
 ghost use Rattle.run_command.specs.Run.{IsCrewRun, IsRunForm, IsRunMade, run_outputs, run_request};
@@ -83,7 +83,7 @@ fn run_crew<R: Threads + Wait + Sync, G: Gate>(
     requires table { table ≡ groups_of image.now }
     requires setup { IsSetupFor image.now setup.now }
     requires views { IsViewsFor views image.now }
-    ensures run { IfOk result (λ ran. IsCrewRun (record { image = image.now; setup = setup.now; views = views }) (told ran.trace) ran.console.items) }
+    ensures run { IfOk result (λ ran. IsCrewRun (record { image = image.now; setup = setup.now; views = views }) (told_of_trace ran.trace) ran.console.items) }
     ensures table { IfOk result (λ ran. ran.table ≡ table) }
     ensures views { IfOk result (λ ran. ran.views ≡ views) }
 {
@@ -141,7 +141,7 @@ pub fn make_run<R: Threads + Wait + Sync, S: Store, G: Gate>(
     store: &mut S,
     gate: &G,
 ) -> Result<Product, Refusal>
-    ensures said { (told : Told) → S.files store.old ≡ Some told → MakeSaid (run_request (map string_bytes words.now)) told result }
+    ensures said { (told_of_trace : FileContents) → S.files store.old ≡ Some told_of_trace → MakeSaid (run_request (map string_bytes words.now)) told_of_trace result }
     ensures counted { MakeCounts (run_request (map string_bytes words.now)) (S.reads store.old) (S.reads store.new) result }
     ensures outputs { HasOutputs (run_request (map string_bytes words.now)) result }
     ensures files { S.files store.new ≡ S.files store.old }

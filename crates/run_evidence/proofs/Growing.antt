@@ -9,8 +9,8 @@ use native.Mathlib.Decide.{dec_lt}
 use Rattle.chain_log.specs.declared.entry.LogEntry.{LogEntry}
 use Rattle.function_table.specs.Groups.{group_at}
 use Rattle.guest_board.specs.Board.{State, may, next_of}
-use Rattle.run_evidence.specs.Config.{Config, groups_in, rules_in, is_base, full, full_at, IsLawful, view_in, view_at, fetched_at}
-use Rattle.run_evidence.specs.Evidence.{AllJustified, is_logged, is_open, log_in}
+use Rattle.run_evidence.specs.Config.{Config, image_groups, rules_in, is_base, full, full_at, IsLawfulSchedule, view_in, view_at, fetched_at}
+use Rattle.run_evidence.specs.Evidence.{AllJustified, is_logged_at, is_group_open, log_in}
 use Rattle.run_evidence.specs.Growing.{Begins, RunsAppend, BoardsMove, LawfulGrows, FrontsAreLawful, StoppedStays, AllowedIsFromStart, AllowedFromStays, AllowedFromGrows, AllowedJoins}
 use Rattle.run_evidence.specs.Stays.{JustifiedStays}
 use Rattle.run_evidence.proofs.Runs.{run_from-append, run_from-more, full_at-now, full_at-more, member-now, lawful-more}
@@ -56,23 +56,23 @@ any_more : {X : Type 0} (f : X → Bool) (xs ys : List X) → list_any f xs ≡ 
 any_more f [] ys e = absurd cc
 any_more f (x ∷ xs) ys e = or-weaken (f x) (list_any f xs) (list_any f (xs ++ ys)) (any_more f xs ys) e
 
-pub logged_more : (log more : List LogEntry) (t g : ℕ) → Begins log more → is_logged log t g ≡ true → is_logged more t g ≡ true
+pub logged_more : (log more : List LogEntry) (t g : ℕ) → Begins log more → is_logged_at log t g ≡ true → is_logged_at more t g ≡ true
 logged_more log more t g b is =
     let f : LogEntry → Bool = λ e. (e.group == g) && nat_le e.at t in
     subst (λ (z : List LogEntry). list_any f z ≡ true) (sym b.1) (any_more f log b.0 is)
 
 pub allowed_from_stays : AllowedFromStays
 allowed_from_stays c schedule from logs more grown all t p low within next =
-    let v : ℕ = view_at c schedule t in let g : ℕ = group_at (groups_in c) p in
-    or-weaken (is_base c v g) (is_logged (log_in logs v) t g) (is_logged (log_in more v) t g) (logged_more (log_in logs v) (log_in more v) t g (grown v)) (all t p low within next)
+    let v : ℕ = view_at c schedule t in let g : ℕ = group_at (image_groups c) p in
+    or-weaken (is_base c v g) (is_logged_at (log_in logs v) t g) (is_logged_at (log_in more v) t g) (logged_more (log_in logs v) (log_in more v) t g (grown v)) (all t p low within next)
 
 pub allowed_is_from_start : AllowedIsFromStart
 allowed_is_from_start c logs schedule = ((λ all t p low within next. all t p within next), λ all t p within next. all t p (omega arith) within next)
 
 -- a step of a front part fetches what it fetched there
 front_allowed : (c : Config) (schedule later : List ℕ) (logs : List (List LogEntry)) (t p : ℕ) → t < length schedule
-    → (fetched_at c schedule t ≡ Some p → is_open c logs (view_at c schedule t) t (group_at (groups_in c) p) ≡ true)
-    → fetched_at c (schedule ++ later) t ≡ Some p → is_open c logs (view_at c (schedule ++ later) t) t (group_at (groups_in c) p) ≡ true
+    → (fetched_at c schedule t ≡ Some p → is_group_open c logs (view_at c schedule t) t (group_at (image_groups c) p) ≡ true)
+    → fetched_at c (schedule ++ later) t ≡ Some p → is_group_open c logs (view_at c (schedule ++ later) t) t (group_at (image_groups c) p) ≡ true
 front_allowed c schedule later logs t p within all next =
     let a : full_at c (schedule ++ later) t ≡ full_at c schedule t = full_at-front c schedule later t (omega (arith, within)) in
     let b : slice_index (schedule ++ later) t ≡ slice_index schedule t = member-front schedule later t within in
@@ -92,7 +92,7 @@ allowed_from_grows c schedule i from logs all new t p low within next =
     let a : full_at c (schedule ++ i ∷ []) t ≡ full c schedule = full_at-more c schedule i t (omega (arith, last)) ∙ (ap (λ x. full_at c schedule x) last ∙ full_at-now c schedule) in
     let b : slice_index (schedule ++ i ∷ []) t ≡ i = member-now schedule i t last in
     let n : next_of (full c schedule) i ≡ Some p = rw (a, b) at next in
-    rw (a, b) (subst (λ x. is_open c logs (view_in c (full c schedule) i) x (group_at (groups_in c) p) ≡ true) (sym last) (new p n)))
+    rw (a, b) (subst (λ x. is_group_open c logs (view_in c (full c schedule) i) x (group_at (image_groups c) p) ≡ true) (sym last) (new p n)))
 
 pub stopped_stays : StoppedStays
 stopped_stays c schedule [] i stuck lawful = subst (λ z. may (rules_in c) (full c z) i ≡ false) (sym (append-nil schedule)) stuck
@@ -104,7 +104,7 @@ stopped_stays c schedule (j ∷ later) i stuck lawful =
     let goes : may (rules_in c) (full c schedule) j ≡ true = subst (λ (k : ℕ). may (rules_in c) (full c schedule) k ≡ true) who (subst (λ (s : State). may (rules_in c) s (slice_index (schedule ++ j ∷ later) (length schedule)) ≡ true) state here) in
     let next : may (rules_in c) (full c (schedule ++ j ∷ [])) i ≡ false = subst (λ (s : State). may (rules_in c) s i ≡ false) (sym (run_from-more (rules_in c) _ schedule j)) (stopped-step (rules_in c) (full c schedule) i j stuck goes) in
     let whole : (schedule ++ j ∷ []) ++ later ≡ schedule ++ j ∷ later = append_assoc schedule (j ∷ []) later in
-    subst (λ z. may (rules_in c) (full c z) i ≡ false) whole (stopped_stays c (schedule ++ j ∷ []) later i next (subst (λ z. IsLawful c z) (sym whole) lawful))
+    subst (λ z. may (rules_in c) (full c z) i ≡ false) whole (stopped_stays c (schedule ++ j ∷ []) later i next (subst (λ z. IsLawfulSchedule c z) (sym whole) lawful))
 
 pub all_justified_later : (c : Config) (schedule later : List ℕ) (log : List LogEntry) → AllJustified c schedule log → AllJustified c (schedule ++ later) log
 all_justified_later c schedule later [] all = tt

@@ -6,8 +6,8 @@ use Rattle.std.proofs.lemmas.Bool.Decides.{nat_tests}
 use Rattle.chain_log.specs.declared.entry.LogEntry.{LogEntry}
 use Rattle.function_table.specs.Groups.{group_at}
 use Rattle.guest_board.specs.Board.{next_of}
-use Rattle.run_evidence.specs.Config.{Config, groups_in, is_base, full_at, view_in, fetched_at, view_at}
-use Rattle.run_evidence.specs.Evidence.{IsJustified, AllJustified, IsAllowed, IsOnce, AllOfView, is_logged, is_open, log_in}
+use Rattle.run_evidence.specs.Config.{Config, image_groups, is_base, full_at, view_in, fetched_at, view_at}
+use Rattle.run_evidence.specs.Evidence.{IsJustified, AllJustified, IsAllowed, IsOnce, AllOfView, is_logged_at, is_group_open, log_in}
 use Rattle.run_evidence.specs.Misses.{is_of_group, is_fetch, was_fetched, misses_under, steps_of}
 use Rattle.run_evidence.proofs.Ascending.{Among, AllAbove, AreAscending, same-members}
 use Rattle.run_evidence.proofs.Missed.{same-test, test-same, both, pair-up, other, IsPlaceOf, place-of, of-place, IsEarlier, earlier, fetched-earlier, IsMissing, miss-parts, parts-miss, under-ascends, under-among, IsUnder, among-under}
@@ -90,10 +90,10 @@ record IsLoggedBy (log : List LogEntry) (t g : ℕ) : Type 0 where
 le-test : (a b : ℕ) → nat_le a b ≡ true → a ≤ b
 le-test a b t = grind (arith, nat_tests, t)
 
-logged-by : (log : List LogEntry) (t g : ℕ) → is_logged log t g ≡ true → IsLoggedBy log t g
+logged-by : (log : List LogEntry) (t g : ℕ) → is_logged_at log t g ≡ true → IsLoggedBy log t g
 logged-by [] t g e = absurd (cc)
 logged-by (x ∷ xs) t g e =
-    elim ((x.group == g) && nat_le x.at t) as (λ b. ((x.group == g) && nat_le x.at t) ≡ b → (b || is_logged xs t g) ≡ true → IsLoggedBy (x ∷ xs) t g) [
+    elim ((x.group == g) && nat_le x.at t) as (λ b. ((x.group == g) && nat_le x.at t) ≡ b → (b || is_logged_at xs t g) ≡ true → IsLoggedBy (x ∷ xs) t g) [
       | true ↦ λ k z. record { entry = x; among = inl refl; group = test-same x.group g (both _ _ k).0; early = le-test x.at t (both _ _ k).1 }
       | false ↦ λ k z. (let r : IsLoggedBy xs t g = logged-by xs t g z in record { entry = r.entry; among = inr r.among; group = r.group; early = r.early })
     ] refl e
@@ -130,7 +130,7 @@ same-pc c schedule e x j k s t a =
     let next : next_of (full_at c schedule x.at) x.vcpu ≡ Some e.pc = subst (λ i. next_of (full_at c schedule x.at) i ≡ Some e.pc) same (subst (λ n. next_of (full_at c schedule n) e.vcpu ≡ Some e.pc) a j.next) in
     let some : Some e.pc ≡ Some x.pc = sym next ∙ k.next in
     let place : e.pc ≡ x.pc = cc in
-    j.group ∙ ap (λ p. group_at (groups_in c) p) place ∙ sym k.group
+    j.group ∙ ap (λ p. group_at (image_groups c) p) place ∙ sym k.group
 
 above-steps : (c : Config) (schedule : List ℕ) (e : LogEntry) (log : List LogEntry) → IsJustified c schedule e → IsOfStep schedule e → AllFrom e.at log → AllJustified c schedule log → AllOfSteps schedule log
     → list_any (λ (x : LogEntry). x.group == e.group) log ≡ false → AllAbove e.at (steps_of log)
@@ -160,7 +160,7 @@ module _ (c : Config) (h : List ℕ) (logs : List (List LogEntry)) (v : ℕ) (lo
     pub within : e.at < length h
     pub next : fetched_at c h e.at ≡ Some e.pc
     pub view : view_at c h e.at ≡ v
-    pub group : e.group ≡ group_at (groups_in c) e.pc
+    pub group : e.group ≡ group_at (image_groups c) e.pc
     pub missing : is_base c v e.group ≡ false
 
   entry-fetched : (e : LogEntry) → Among e log → IsFetched e
@@ -177,11 +177,11 @@ module _ (c : Config) (h : List ℕ) (logs : List (List LogEntry)) (v : ℕ) (lo
       }
 
   -- a group that the base lacks and that a step fetches under the view is logged by then
-  logged-then : (t p g : ℕ) → t < length h → fetched_at c h t ≡ Some p → view_at c h t ≡ v → group_at (groups_in c) p ≡ g → is_base c v g ≡ false → is_logged log t g ≡ true
+  logged-then : (t p g : ℕ) → t < length h → fetched_at c h t ≡ Some p → view_at c h t ≡ v → group_at (image_groups c) p ≡ g → is_base c v g ≡ false → is_logged_at log t g ≡ true
   logged-then t p g l n w s b =
-      let a : is_open c logs v t (group_at (groups_in c) p) ≡ true = subst (λ u. is_open c logs u t (group_at (groups_in c) p) ≡ true) w (allowed t p l n) in
-      let d : is_open c logs v t g ≡ true = subst (λ x. is_open c logs v t x ≡ true) s a in
-      subst (λ x. is_logged x t g ≡ true) here (other (is_base c v g) (is_logged (log_in logs v) t g) b d)
+      let a : is_group_open c logs v t (group_at (image_groups c) p) ≡ true = subst (λ u. is_group_open c logs u t (group_at (image_groups c) p) ≡ true) w (allowed t p l n) in
+      let d : is_group_open c logs v t g ≡ true = subst (λ x. is_group_open c logs v t x ≡ true) s a in
+      subst (λ x. is_logged_at x t g ≡ true) here (other (is_base c v g) (is_logged_at (log_in logs v) t g) b d)
 
   -- no step before that of an entry fetches its group
   entry-fresh : (e : LogEntry) → Among e log → was_fetched c h v e.group e.at ≡ false
@@ -198,7 +198,7 @@ module _ (c : Config) (h : List ℕ) (logs : List (List LogEntry)) (v : ℕ) (lo
           both (view_at c h k.at == v) (is_of_group c (fetched_at c h k.at) e.group) k.fetch in
           let w : view_at c h k.at ≡ v = test-same (view_at c h k.at) v both_are.0 in
           let p : IsPlaceOf c (fetched_at c h k.at) e.group = place-of c (fetched_at c h k.at) e.group both_are.1 in
-          let l : is_logged log k.at e.group ≡ true = logged-then k.at p.place e.group (omega (arith, k.below, f.within)) p.next_is w p.group f.missing in
+          let l : is_logged_at log k.at e.group ≡ true = logged-then k.at p.place e.group (omega (arith, k.below, f.within)) p.next_is w p.group f.missing in
           let x : IsLoggedBy log k.at e.group = logged-by log k.at e.group l in
           let same : e.at ≡ x.entry.at = ap (λ (y : LogEntry). y.at) (one-of-group log e x.entry once m x.among (sym x.group)) in
           omega (arith, k.below, x.early, same)
@@ -209,8 +209,8 @@ module _ (c : Config) (h : List ℕ) (logs : List (List LogEntry)) (v : ℕ) (lo
       under-among c h v e.at f.within (parts-miss c h e.at (record {
         place = e.pc;
         next = f.next;
-        missing = ap (λ u. is_base c u (group_at (groups_in c) e.pc)) f.view ∙ ap (λ g. is_base c v g) (sym f.group) ∙ f.missing;
-        fresh = ap (λ u. was_fetched c h u (group_at (groups_in c) e.pc) e.at) f.view ∙ ap (λ g. was_fetched c h v g e.at) (sym f.group) ∙ entry-fresh e m;
+        missing = ap (λ u. is_base c u (group_at (image_groups c) e.pc)) f.view ∙ ap (λ g. is_base c v g) (sym f.group) ∙ f.missing;
+        fresh = ap (λ u. was_fetched c h u (group_at (image_groups c) e.pc) e.at) f.view ∙ ap (λ g. was_fetched c h v g e.at) (sym f.group) ∙ entry-fresh e m;
       })) f.view
 
   under-entry : (t : ℕ) → Among t (misses_under c h v) → Among t (steps_of log)
@@ -231,10 +231,10 @@ module _ (c : Config) (h : List ℕ) (logs : List (List LogEntry)) (v : ℕ) (lo
     made : IsUnder c h v t → Among t (steps_of log)
     made u =
         let k : IsMissing c h t = miss-parts c h t u.miss in
-        let missing : is_base c v (group_at (groups_in c) k.place) ≡ false = subst (λ w. is_base c w (group_at (groups_in c) k.place) ≡ false) u.view k.missing in
-        let fresh : was_fetched c h v (group_at (groups_in c) k.place) t ≡ false = subst (λ w. was_fetched c h w (group_at (groups_in c) k.place) t ≡ false) u.view k.fresh in
-        found (group_at (groups_in c) k.place) fresh
-        (logged-by log t (group_at (groups_in c) k.place) (logged-then t k.place (group_at (groups_in c) k.place) u.within k.next u.view refl missing))
+        let missing : is_base c v (group_at (image_groups c) k.place) ≡ false = subst (λ w. is_base c w (group_at (image_groups c) k.place) ≡ false) u.view k.missing in
+        let fresh : was_fetched c h v (group_at (image_groups c) k.place) t ≡ false = subst (λ w. was_fetched c h w (group_at (image_groups c) k.place) t ≡ false) u.view k.fresh in
+        found (group_at (image_groups c) k.place) fresh
+        (logged-by log t (group_at (image_groups c) k.place) (logged-then t k.place (group_at (image_groups c) k.place) u.within k.next u.view refl missing))
 
   pub log-is-misses : steps_of log ≡ misses_under c h v
   log-is-misses =

@@ -3,7 +3,7 @@ use Rattle.std.proofs.Common.{◌≡◌, ℕ, zero, suc, ◌<◌, true, false, B
 use Rattle.std.specs.Prelude.{◌==◌, ◌&&◌, ◌||◌, not, if◌then◌else◌}
 use Rattle.std.proofs.lemmas.Bool.Decides.{nat_tests}
 use Rattle.function_table.specs.Groups.{group_at}
-use Rattle.run_evidence.specs.Config.{Config, groups_in, is_base, fetched_at, view_at}
+use Rattle.run_evidence.specs.Config.{Config, image_groups, is_base, fetched_at, view_at}
 use Rattle.run_evidence.specs.Misses.{is_of_group, is_fetch, was_fetched, is_miss_at, is_miss, misses_to, misses, misses_under}
 use Rattle.run_evidence.proofs.Ascending.{Among, AreAscending, among-push, among-last, push-among, ascending-push, ascending-filter, among-filter, filter-among, filter-all}
 
@@ -33,14 +33,14 @@ lt-or-eq t n h = grind (arith, h)
 pub record IsPlaceOf (c : Config) (next : Option ℕ) (g : ℕ) : Type 0 where
   pub place : ℕ
   pub next_is : next ≡ Some place
-  pub group : group_at (groups_in c) place ≡ g
+  pub group : group_at (image_groups c) place ≡ g
 
 pub place-of : (c : Config) (next : Option ℕ) (g : ℕ) → is_of_group c next g ≡ true → IsPlaceOf c next g
 place-of c None g e = absurd (cc)
-place-of c (Some p) g e = record { place = p; next_is = refl; group = test-same (group_at (groups_in c) p) g e }
+place-of c (Some p) g e = record { place = p; next_is = refl; group = test-same (group_at (image_groups c) p) g e }
 
-pub of-place : (c : Config) (next : Option ℕ) (p g : ℕ) → next ≡ Some p → group_at (groups_in c) p ≡ g → is_of_group c next g ≡ true
-of-place c next p g n e = subst (λ o. is_of_group c o g ≡ true) (sym n) (same-test (group_at (groups_in c) p) g e)
+pub of-place : (c : Config) (next : Option ℕ) (p g : ℕ) → next ≡ Some p → group_at (image_groups c) p ≡ g → is_of_group c next g ≡ true
+of-place c next p g n e = subst (λ o. is_of_group c o g ≡ true) (sym n) (same-test (group_at (image_groups c) p) g e)
 
 module _ (c : Config) (h : List ℕ) where
   -- one of the first t steps fetched group g under view v
@@ -74,8 +74,8 @@ module _ (c : Config) (h : List ℕ) where
   pub record IsMissing (t : ℕ) : Type 0 where
     pub place : ℕ
     pub next : fetched_at c h t ≡ Some place
-    pub missing : is_base c (view_at c h t) (group_at (groups_in c) place) ≡ false
-    pub fresh : was_fetched c h (view_at c h t) (group_at (groups_in c) place) t ≡ false
+    pub missing : is_base c (view_at c h t) (group_at (image_groups c) place) ≡ false
+    pub fresh : was_fetched c h (view_at c h t) (group_at (image_groups c) place) t ≡ false
 
   not-true : (a : Bool) → not a ≡ true → a ≡ false
   not-true true e = absurd (cc)

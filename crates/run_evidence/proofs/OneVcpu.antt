@@ -12,7 +12,7 @@ use Rattle.guest_board.specs.declared.rules.Rules.{Rules}
 use Rattle.guest_board.specs.declared.slot.Slot.{Slot}
 use Rattle.guest_board.specs.Board.{State, may, name_of, next_start, no_slot, run_from, step_of}
 use Rattle.guest_board.specs.First.{first_slot, first_slots, first_state, hook_place, text_of}
-use Rattle.run_evidence.specs.Config.{Config, rules_in, full, full_at, IsLawful, view_at}
+use Rattle.run_evidence.specs.Config.{Config, rules_in, full, full_at, IsLawfulSchedule, view_at}
 use Rattle.run_evidence.specs.Evidence.{IsJustified, AllJustified}
 use Rattle.run_evidence.proofs.Runs.{full_at-now}
 use Rattle.run_evidence.proofs.Logged.{IsOfStep, AllOfSteps}
@@ -52,7 +52,7 @@ module _ (c : Config) (one : c.setup.vcpus ≡ 1) where
   alone : (schedule : List ℕ) (i : ℕ) → may (rules_in c) (full c schedule) i ≡ true → i ≡ 0
   alone schedule i m = omega (arith, may-slot (rules_in c) (full c schedule) i m, full-vcpus c schedule, one)
 
-  module _ (schedule : List ℕ) (lawful : IsLawful c schedule) where
+  module _ (schedule : List ℕ) (lawful : IsLawfulSchedule c schedule) where
     member-zero : (t : ℕ) → t < length schedule → slice_index schedule t ≡ 0
     member-zero t h = alone (take t schedule) (slice_index schedule t) (lawful t h)
 

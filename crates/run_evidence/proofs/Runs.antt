@@ -6,7 +6,7 @@ use Rattle.std.proofs.Math.Seq.{get_or-append_seam}
 use Rattle.std.proofs.lemmas.Grind.{common_steps}
 use Rattle.guest_board.specs.declared.rules.Rules.{Rules}
 use Rattle.guest_board.specs.Board.{State, may, step_of, run_from}
-use Rattle.run_evidence.specs.Config.{Config, rules_in, full, full_at, IsLawful}
+use Rattle.run_evidence.specs.Config.{Config, rules_in, full, full_at, IsLawfulSchedule}
 
 pub run_from-append : (rules : Rules) (s : State) (schedule later : List ℕ) → run_from rules s (schedule ++ later) ≡ run_from rules (run_from rules s schedule) later
 run_from-append rules s [] later = refl
@@ -33,7 +33,7 @@ pub member-now : (schedule : List ℕ) (i t : ℕ) → t ≡ length schedule →
 member-now schedule i t h = ap (λ x. slice_index (schedule ++ i ∷ []) x) h ∙ get_or-append_seam schedule i [] 0
 
 -- a lawful schedule with one more step that exists
-pub lawful-more : (c : Config) (schedule : List ℕ) (i : ℕ) → IsLawful c schedule → may (rules_in c) (full c schedule) i ≡ true → IsLawful c (schedule ++ i ∷ [])
+pub lawful-more : (c : Config) (schedule : List ℕ) (i : ℕ) → IsLawfulSchedule c schedule → may (rules_in c) (full c schedule) i ≡ true → IsLawfulSchedule c (schedule ++ i ∷ [])
 lawful-more c schedule i all new t within =
     let some : t < length schedule + 1 = simp length-append at within in
     let before : t < length schedule → may (rules_in c) (full_at c (schedule ++ i ∷ []) t) (slice_index (schedule ++ i ∷ []) t) ≡ true = λ h.

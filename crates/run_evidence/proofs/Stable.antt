@@ -7,8 +7,8 @@ use Rattle.std.proofs.lemmas.Bool.Decides.{nat_tests}
 use Rattle.chain_log.specs.declared.entry.LogEntry.{LogEntry}
 use Rattle.function_table.specs.Groups.{group_at}
 use Rattle.guest_board.specs.Board.{next_of}
-use Rattle.run_evidence.specs.Config.{Config, groups_in, is_base, full, full_at, view_in, view_at}
-use Rattle.run_evidence.specs.Evidence.{IsJustified, AllJustified, IsAllowed, IsOnce, AllOfView, is_logged, is_open, log_in}
+use Rattle.run_evidence.specs.Config.{Config, image_groups, is_base, full, full_at, view_in, view_at}
+use Rattle.run_evidence.specs.Evidence.{IsJustified, AllJustified, IsAllowed, IsOnce, AllOfView, is_logged_at, is_group_open, log_in}
 use Rattle.run_evidence.proofs.Runs.{full_at-more, full_at-now, member-more, member-now}
 
 -- an entry stays justified
@@ -38,15 +38,15 @@ of_view-push v e (x ∷ xs) all new = (all.0, of_view-push v e xs all.1 new)
 
 -- a logged group was logged by now
 pub is_logged-now : (c : Config) (schedule : List ℕ) (g : ℕ) (log : List LogEntry) → AllJustified c schedule log
-    → list_any (λ e. e.group == g) log ≡ true → is_logged log (length schedule) g ≡ true
+    → list_any (λ e. e.group == g) log ≡ true → is_logged_at log (length schedule) g ≡ true
 is_logged-now c schedule g [] all h = absurd (cc)
 is_logged-now c schedule g (e ∷ es) all h =
-    let rest : list_any (λ (x : LogEntry). x.group == g) es ≡ true → is_logged es (length schedule) g ≡ true = is_logged-now c schedule g es all.1 in
+    let rest : list_any (λ (x : LogEntry). x.group == g) es ≡ true → is_logged_at es (length schedule) g ≡ true = is_logged-now c schedule g es all.1 in
     let early : e.at ≤ length schedule = all.0.early in
     grind (arith, nat_tests, rest, early, h)
 
 -- a log that grows has as much
-pub is_logged-push : (log : List LogEntry) (e : LogEntry) (t g : ℕ) → is_logged log t g ≡ true → is_logged (log ++ e ∷ []) t g ≡ true
+pub is_logged-push : (log : List LogEntry) (e : LogEntry) (t g : ℕ) → is_logged_at log t g ≡ true → is_logged_at (log ++ e ∷ []) t g ≡ true
 is_logged-push log e t g h = grind (arith, common_steps, h)
 
 -- no group twice
@@ -63,26 +63,26 @@ or-weaken false b d f e = f e
 
 -- logs that have as much allow as much
 pub allowed-weaken : (c : Config) (schedule : List ℕ) (logs more : List (List LogEntry))
-    → ((v t g : ℕ) → is_logged (log_in logs v) t g ≡ true → is_logged (log_in more v) t g ≡ true) → IsAllowed c logs schedule → IsAllowed c more schedule
+    → ((v t g : ℕ) → is_logged_at (log_in logs v) t g ≡ true → is_logged_at (log_in more v) t g ≡ true) → IsAllowed c logs schedule → IsAllowed c more schedule
 allowed-weaken c schedule logs more kept all t p within next =
-    or-weaken (is_base c (view_at c schedule t) (group_at (groups_in c) p)) (is_logged (log_in logs (view_at c schedule t)) t (group_at (groups_in c) p))
-    (is_logged (log_in more (view_at c schedule t)) t (group_at (groups_in c) p)) (kept (view_at c schedule t) t (group_at (groups_in c) p)) (all t p within next)
+    or-weaken (is_base c (view_at c schedule t) (group_at (image_groups c) p)) (is_logged_at (log_in logs (view_at c schedule t)) t (group_at (image_groups c) p))
+    (is_logged_at (log_in more (view_at c schedule t)) t (group_at (image_groups c) p)) (kept (view_at c schedule t) t (group_at (image_groups c) p)) (all t p within next)
 
 -- one more step, whose fetch is allowed
 pub allowed-more : (c : Config) (schedule : List ℕ) (i : ℕ) (logs : List (List LogEntry)) → IsAllowed c logs schedule
-    → ((p : ℕ) → next_of (full c schedule) i ≡ Some p → is_open c logs (view_in c (full c schedule) i) (length schedule) (group_at (groups_in c) p) ≡ true)
+    → ((p : ℕ) → next_of (full c schedule) i ≡ Some p → is_group_open c logs (view_in c (full c schedule) i) (length schedule) (group_at (image_groups c) p) ≡ true)
     → IsAllowed c logs (schedule ++ i ∷ [])
 allowed-more c schedule i logs all new t p within next =
     let some : t < length schedule + 1 = simp length-append at within in
     let same : t ≤ length schedule → full_at c (schedule ++ i ∷ []) t ≡ full_at c schedule t = full_at-more c schedule i t in
-    let before : t < length schedule → is_open c logs (view_at c (schedule ++ i ∷ []) t) t (group_at (groups_in c) p) ≡ true = λ h.
+    let before : t < length schedule → is_group_open c logs (view_at c (schedule ++ i ∷ []) t) t (group_at (image_groups c) p) ≡ true = λ h.
     let a : full_at c (schedule ++ i ∷ []) t ≡ full_at c schedule t = same (omega arith) in
     let b : slice_index (schedule ++ i ∷ []) t ≡ slice_index schedule t = member-more schedule i t h in
     let n : next_of (full_at c schedule t) (slice_index schedule t) ≡ Some p = rw (a, b) at next in
     rw (a, b) (all t p h n) in
-    let now : t ≡ length schedule → is_open c logs (view_at c (schedule ++ i ∷ []) t) t (group_at (groups_in c) p) ≡ true = λ h.
+    let now : t ≡ length schedule → is_group_open c logs (view_at c (schedule ++ i ∷ []) t) t (group_at (image_groups c) p) ≡ true = λ h.
     let a : full_at c (schedule ++ i ∷ []) t ≡ full c schedule = same (omega arith) ∙ ap (λ x. full_at c schedule x) h ∙ full_at-now c schedule in
     let b : slice_index (schedule ++ i ∷ []) t ≡ i = member-now schedule i t h in
     let n : next_of (full c schedule) i ≡ Some p = rw (a, b) at next in
-    rw (a, b) (subst (λ x. is_open c logs (view_in c (full c schedule) i) x (group_at (groups_in c) p) ≡ true) (sym h) (new p n)) in
+    rw (a, b) (subst (λ x. is_group_open c logs (view_in c (full c schedule) i) x (group_at (image_groups c) p) ≡ true) (sym h) (new p n)) in
     grind (arith, before, now, some)

@@ -1,6 +1,6 @@
 -- What a run is made of, and the full run of a schedule.
 -- The full kernel reads the original text; no view, window or recovery occurs in it.
-use Rattle.std.specs.Prelude.{◌≡◌, ℕ, ◌<◌, Bool, true, false, Option, List, length, take, slice_index, slice_index_or}
+use Rattle.std.specs.Prelude.{◌≡◌, ℕ, ◌<◌, Bool, true, false, Option, List, [], length, take, slice_index, slice_index_or}
 use Rattle.guest_input.specs.declared.image.Image.{Image}
 use Rattle.guest_input.specs.declared.setup.Setup.{Setup}
 use Rattle.guest_input.specs.Accepted.{IsImage, IsSetupFor}
@@ -24,12 +24,16 @@ pub record IsConfig (c : Config) : Type 0 where
   pub setup : IsSetupFor c.image c.setup
   pub views : IsViewsFor c.views c.image
 
-abbrev pub groups_in : Config → Groups
-groups_in c = groups_of c.image
+-- views with no app, which list nothing
+abbrev pub no_views : Views
+no_views = record { text = []; shared = []; apps = [] }
+
+abbrev pub image_groups : Config → Groups
+image_groups c = groups_of c.image
 
 -- whether the group is in the base of view v: it holds a function listed for the app, or a shared one
 abbrev pub is_base : Config → ℕ → ℕ → Bool
-is_base c v g = slice_index_or (base_of c.views (groups_in c) v) g false
+is_base c v g = slice_index_or (base_of c.views (image_groups c) v) g false
 
 abbrev pub rules_in : Config → Rules
 rules_in c = rules_of c.image c.setup
@@ -43,8 +47,8 @@ abbrev pub full_at : Config → List ℕ → ℕ → State
 full_at c schedule t = full c (take t schedule)
 
 -- each step of the schedule exists
-abbrev pub IsLawful : Config → List ℕ → Type 0
-IsLawful c schedule = (t : ℕ) → t < length schedule → may (rules_in c) (full_at c schedule t) (slice_index schedule t) ≡ true
+abbrev pub IsLawfulSchedule : Config → List ℕ → Type 0
+IsLawfulSchedule c schedule = (t : ℕ) → t < length schedule → may (rules_in c) (full_at c schedule t) (slice_index schedule t) ≡ true
 
 -- the view of a vCPU: that of its app name, or the full view
 abbrev pub view_in : Config → State → ℕ → ℕ

@@ -6,7 +6,7 @@ use Rattle.chain_log.specs.declared.entry.LogEntry.{LogEntry}
 use Rattle.chain_log.specs.Chain.{chain_of}
 use Rattle.function_table.specs.Groups.{group_at}
 use Rattle.guest_board.specs.Board.{State, may, next_of, vcpu_of}
-use Rattle.run_evidence.specs.Config.{Config, groups_in, rules_in, is_base, full_at, view_in, fetched_at, view_at}
+use Rattle.run_evidence.specs.Config.{Config, image_groups, rules_in, is_base, full_at, view_in, fetched_at, view_at}
 
 -- the call chain of vCPU i in a state
 abbrev pub chain_in : State → ℕ → List ℕ
@@ -19,7 +19,7 @@ pub record IsJustified (c : Config) (schedule : List ℕ) (e : LogEntry) : Type 
   pub may_step : may (rules_in c) (full_at c schedule e.at) e.vcpu ≡ true
   pub next : next_of (full_at c schedule e.at) e.vcpu ≡ Some e.pc
   pub view : view_in c (full_at c schedule e.at) e.vcpu ≡ e.view
-  pub group : e.group ≡ group_at (groups_in c) e.pc
+  pub group : e.group ≡ group_at (image_groups c) e.pc
   pub missing : is_base c e.view e.group ≡ false
   pub chain : e.chain.items ≡ chain_in (full_at c schedule e.at) e.vcpu
 
@@ -36,17 +36,17 @@ abbrev pub AreJustified : Config → List (List LogEntry) → List ℕ → Type 
 AreJustified c logs schedule = (v : ℕ) → AllJustified c schedule (log_in logs v)
 
 -- logged by an entry whose trap came at a clock not above t
-abbrev pub is_logged : List LogEntry → ℕ → ℕ → Bool
-is_logged log t g = list_any (λ e. (e.group == g) && nat_le e.at t) log
+abbrev pub is_logged_at : List LogEntry → ℕ → ℕ → Bool
+is_logged_at log t g = list_any (λ e. (e.group == g) && nat_le e.at t) log
 
 -- whether view v may run group g at step t
-abbrev pub is_open : Config → List (List LogEntry) → ℕ → ℕ → ℕ → Bool
-is_open c logs v t g = is_base c v g || is_logged (log_in logs v) t g
+abbrev pub is_group_open : Config → List (List LogEntry) → ℕ → ℕ → ℕ → Bool
+is_group_open c logs v t g = is_base c v g || is_logged_at (log_in logs v) t g
 
 -- each fetch of text under a view is of a group in its base, or logged for it at or before that step
 abbrev pub IsAllowed : Config → List (List LogEntry) → List ℕ → Type 0
 IsAllowed c logs schedule = (t p : ℕ) → t < length schedule → fetched_at c schedule t ≡ Some p
-    → is_open c logs (view_at c schedule t) t (group_at (groups_in c) p) ≡ true
+    → is_group_open c logs (view_at c schedule t) t (group_at (image_groups c) p) ≡ true
 
 -- no group twice
 abbrev pub IsOnce : List LogEntry → Type 0

@@ -5,12 +5,12 @@ use Rattle.std.specs.List.{filter}
 use Rattle.std.proofs.Common.{zero, suc}
 use Rattle.chain_log.specs.declared.entry.LogEntry.{LogEntry}
 use Rattle.function_table.specs.Groups.{group_at}
-use Rattle.run_evidence.specs.Config.{Config, groups_in, is_base, fetched_at, view_at}
+use Rattle.run_evidence.specs.Config.{Config, image_groups, is_base, fetched_at, view_at}
 
 -- whether the place, if there is one, is of group g
 abbrev pub is_of_group : Config → Option ℕ → ℕ → Bool
 is_of_group c None g = false
-is_of_group c (Some p) g = group_at (groups_in c) p == g
+is_of_group c (Some p) g = group_at (image_groups c) p == g
 
 -- whether step t fetches group g under view v
 abbrev pub is_fetch : Config → List ℕ → ℕ → ℕ → ℕ → Bool
@@ -26,7 +26,7 @@ is_new c schedule t v g = not (is_base c v g) && not (was_fetched c schedule v g
 
 abbrev pub is_miss_at : Config → List ℕ → ℕ → Option ℕ → Bool
 is_miss_at c schedule t None = false
-is_miss_at c schedule t (Some p) = is_new c schedule t (view_at c schedule t) (group_at (groups_in c) p)
+is_miss_at c schedule t (Some p) = is_new c schedule t (view_at c schedule t) (group_at (image_groups c) p)
 
 -- whether step t is a miss
 abbrev pub is_miss : Config → List ℕ → ℕ → Bool

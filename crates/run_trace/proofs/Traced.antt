@@ -20,7 +20,7 @@ use Rattle.guest_board.specs.declared.rules.Rules.{Rules}
 use Rattle.guest_board.specs.Board.{Seat, State, may, run_from, step_of}
 use Rattle.guest_board.specs.First.{first_state, first_slots}
 use Rattle.guest_board.specs.Laws.{NumberOfVcpusStays}
-use Rattle.run_evidence.specs.Config.{Config, IsConfig, IsLawful, full, full_at, groups_in, is_base, rules_in}
+use Rattle.run_evidence.specs.Config.{Config, IsConfig, IsLawfulSchedule, full, full_at, image_groups, is_base, rules_in}
 use Rattle.run_evidence.specs.Evidence.{IsJustified, AllJustified, AllOfView, IsAllowed, IsOnce, log_in}
 use Rattle.run_evidence.specs.Growing.{paged_at, views_count}
 use Rattle.run_evidence.specs.Sound.{IsSoundView}
@@ -78,7 +78,7 @@ module _ (c : Config) (board : Seat) (views : List PagedView) (run : IsRun c boa
   view-is : (v : ℕ) (d : PagedView) → v < length views → slice_index_or views v d ≡ paged_at c v (logs v)
   view-is v d within =
       let s : IsSoundView c board.schedule v (slice_index_or views v d) = run.each v d within in
-      same-paged (slice_index_or views v d) v (bytes_of c.image.ranges) (groups_in c) (base_of c.views (groups_in c) v) (logs v)
+      same-paged (slice_index_or views v d) v (bytes_of c.image.ranges) (image_groups c) (base_of c.views (image_groups c) v) (logs v)
       s.number s.text s.groups s.base (sym (log-is v d within))
 
   all-views : views ≡ map (λ v. paged_at c v (logs v)) (view_numbers c)
@@ -111,7 +111,7 @@ module _ (c : Config) (board : Seat) (views : List PagedView) (run : IsRun c boa
 
     pub sound-told : NumberOfVcpusStays → IsSoundTrace c t
     sound-told stays = record {
-      lawful = subst (IsLawful c) (sym told.schedule) run.lawful;
+      lawful = subst (IsLawfulSchedule c) (sym told.schedule) run.lawful;
       told = tells stays;
       allowed = subst (λ ls. IsAllowed c ls t.schedule) same-logs (subst (IsAllowed c (map (λ p. p.log) views)) (sym told.schedule) run.allowed);
       justified = subst (AllJustified c t.schedule) (sym entries) (subst (λ h. AllJustified c h (flat_map logs (view_numbers c))) (sym told.schedule) (all-justified logs each c board.schedule 0 (views_count c) justified));
@@ -125,14 +125,14 @@ pub record IsEntryOf (c : Config) (schedule : List ℕ) (e : LogEntry) : Type 0 
   pub vcpu : e.vcpu < c.setup.vcpus
   pub at : e.at ≤ length schedule
 
-full-base : (c : Config) (g : ℕ) → g < groups_count (groups_in c) → is_base c 0 g ≡ true
-full-base c g within = get_or-map-range_with_len (is_based c.views (groups_in c) 0) 0 (groups_count (groups_in c)) g g false within (omega arith)
+full-base : (c : Config) (g : ℕ) → g < groups_count (image_groups c) → is_base c 0 g ≡ true
+full-base c g within = get_or-map-range_with_len (is_based c.views (image_groups c) 0) 0 (groups_count (image_groups c)) g g false within (omega arith)
 
 entry-of : NumberOfVcpusStays → (c : Config) → IsConfig c → (schedule : List ℕ) (e : LogEntry) → IsJustified c schedule e → IsEntryOf c schedule e
 entry-of stays c ok schedule e j =
-    let good : IsGroups (groups_in c) = groups-good c.image ok.image in
-    let below : group_at (groups_in c) e.pc < groups_count (groups_in c) = group-below (groups_in c) e.pc in
-    let group : e.group < groups_count (groups_in c) = rw j.group below in
+    let good : IsGroups (image_groups c) = groups-good c.image ok.image in
+    let below : group_at (image_groups c) e.pc < groups_count (image_groups c) = group-below (image_groups c) e.pc in
+    let group : e.group < groups_count (image_groups c) = rw j.group below in
     record {
       some = elim (e.view == 0) as (λ b. (e.view == 0) ≡ b → 1 ≤ e.view) [
         | true ↦ λ is.
@@ -171,7 +171,7 @@ groups-below : (c : Config) (schedule : List ℕ) (es : List LogEntry) → AllBy
 groups-below c schedule [] all = tt
 groups-below c schedule (e ∷ es) all = (all.0.group, groups-below c schedule es all.1)
 
-all-steps : NumberOfVcpusStays → (c : Config) (schedule : List ℕ) → IsLawful c schedule → AllByRecursion (λ v. v < c.setup.vcpus) schedule
+all-steps : NumberOfVcpusStays → (c : Config) (schedule : List ℕ) → IsLawfulSchedule c schedule → AllByRecursion (λ v. v < c.setup.vcpus) schedule
 all-steps stays c schedule lawful = recursion_from_All (λ v. v < c.setup.vcpus) schedule
     (λ t d within.
     let there : slice_index_or schedule t d ≡ slice_index schedule t = get_or_default schedule t d 0 within in

@@ -21,7 +21,7 @@ use Rattle.guest_board.specs.Made.{Made, in_trap, trapped}
 use Rattle.guest_board.specs.Step.{by_inst, made_by, start_by, step_start, due_at, place_of}
 use Rattle.guest_board.specs.Fetch.{fetched, half_at, half_place, is_split, second_place, text_place, with_first, with_second, place_if}
 use Rattle.guest_board.specs.Board.{State, may, next_of, next_start, no_slot, site_of, slot_of, slot_after, after_made, stepped_by, step_of, vcpu_of, run_from}
-use Rattle.run_evidence.specs.Config.{Config, IsLawful, full, full_at, fetched_at, rules_in}
+use Rattle.run_evidence.specs.Config.{Config, IsLawfulSchedule, full, full_at, fetched_at, rules_in}
 use Rattle.run_trace.specs.Sound.{ZerosReachTheGuest}
 use Rattle.run_trace.proofs.Traced.{may-within}
 

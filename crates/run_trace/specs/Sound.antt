@@ -6,13 +6,13 @@ use Rattle.std.specs.Prelude.{◌≡◌, ℕ, ◌+◌, ◌<◌, ◌==◌, ◌&&�
 use Rattle.std.specs.List.{filter, flat_map, list_any, range_with_len}
 use Rattle.chain_log.specs.declared.entry.LogEntry.{LogEntry}
 use Rattle.trace_file.specs.Trace.{Told}
-use Rattle.trace_file.specs.Lawful.{IsLawful as IsLawfulTrace}
+use Rattle.trace_file.specs.Lawful.{IsLawfulTrace as IsLawfulTrace}
 use Rattle.view_store.specs.Paged.{PagedView}
 use Rattle.rv_step.specs.declared.causes.TheConstants.{ILLEGAL_INSTRUCTION}
 use Rattle.guest_board.specs.Board.{Seat, vcpu_of}
 use Rattle.guest_board.specs.Fetch.{half_at}
 use Rattle.guest_board.specs.Made.{in_trap}
-use Rattle.run_evidence.specs.Config.{Config, IsConfig, fetched_at, full, full_at, IsLawful}
+use Rattle.run_evidence.specs.Config.{Config, IsConfig, fetched_at, full, full_at, IsLawfulSchedule}
 use Rattle.run_evidence.specs.Evidence.{AllJustified, IsAllowed, log_in}
 use Rattle.run_evidence.specs.Growing.{paged_at, views_count}
 use Rattle.run_evidence.specs.Sound.{IsSoundView}
@@ -46,7 +46,7 @@ NoneTwice [] = Unit {0}
 NoneTwice (e ∷ es) = (list_any (λ x. (x.view == e.view) && (x.group == e.group)) es ≡ false) × NoneTwice es
 
 pub record IsSoundTrace (c : Config) (t : Told) : Type 0 where
-  pub lawful : IsLawful c t.schedule
+  pub lawful : IsLawfulSchedule c t.schedule
   pub told : IsTraceOf c t.schedule (logs_told c t) t
   pub allowed : IsAllowed c (logs_told c t) t.schedule
   pub justified : AllJustified c t.schedule t.entries
@@ -57,7 +57,7 @@ pub record IsSoundTrace (c : Config) (t : Told) : Type 0 where
 pub record IsRun (c : Config) (board : Seat) (views : List PagedView) : Type 0 where
   pub config : IsConfig c
   pub state : board.state ≡ full c board.schedule
-  pub lawful : IsLawful c board.schedule
+  pub lawful : IsLawfulSchedule c board.schedule
   pub numbered : length views ≡ views_count c
   pub each : (v : ℕ) (d : PagedView) → v < length views → IsSoundView c board.schedule v (slice_index_or views v d)
   pub allowed : IsAllowed c (map (λ p. p.log) views) board.schedule
@@ -74,6 +74,6 @@ TracesOfRunsAreLawful = (c : Config) (board : Seat) (views : List PagedView) (t 
 -- A zero halfword of text is an illegal instruction of the guest's own, whatever a view lacks: a step of a lawful schedule
 -- that fetches one is the trap of cause 2 with value 0.
 abbrev pub ZerosReachTheGuest : Type 0
-ZerosReachTheGuest = (c : Config) (schedule : List ℕ) (t p : ℕ) → IsLawful c schedule → t < length schedule → fetched_at c schedule t ≡ Some p
+ZerosReachTheGuest = (c : Config) (schedule : List ℕ) (t p : ℕ) → IsLawfulSchedule c schedule → t < length schedule → fetched_at c schedule t ≡ Some p
     → half_at (full_at c schedule t).ram p ≡ 0
     → vcpu_of (full_at c schedule (t + 1)) (slice_index schedule t) ≡ in_trap (vcpu_of (full_at c schedule t) (slice_index schedule t)) ILLEGAL_INSTRUCTION 0

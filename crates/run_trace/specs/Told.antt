@@ -74,12 +74,12 @@ abbrev pub memory_digest : Ram → List ℕ
 memory_digest ram = sha256 ram.bytes
 
 -- the pages of a view as bytes, the lower byte of each halfword first
-abbrev pub page_bytes : List ℕ → List ℕ
-page_bytes halves = flat_map (λ half. to_le_bytes w16 half) halves
+abbrev pub bytes_of_halves : List ℕ → List ℕ
+bytes_of_halves halves = flat_map (λ half. to_le_bytes w16 half) halves
 
 -- the digest of the pages of a view
 abbrev pub pages_digest : PagedView → List ℕ
-pages_digest p = sha256 (page_bytes (mask_of p))
+pages_digest p = sha256 (bytes_of_halves (mask_of p))
 
 -- the trace tells this board, whose run has ended, and these views, in their order
 pub record IsToldBy (board : Seat) (views : List PagedView) (t : Told) : Type 0 where

@@ -3,7 +3,7 @@
 ghost use Rattle.std.specs.Prelude.{◌≡◌, ◌^◌, ◌<◌, ℕ, length, slice_index, IfOk};
 ghost use Rattle.std.specs.List.{AllByRecursion};
 ghost use Rattle.trace_file.specs.Lawful.{IsState, IsDigest};
-ghost use Rattle.run_trace.specs.Told.{vcpu_state, memory_digest, page_bytes, pages_digest, IsEntryInRange};
+ghost use Rattle.run_trace.specs.Told.{vcpu_state, memory_digest, bytes_of_halves, pages_digest, IsEntryInRange};
 
 use chain_log::entry::LogEntry;
 use fc_numbers::memory::NoMemory;
@@ -123,7 +123,7 @@ pub fn memory_digest(ram: &GuestRam) -> [u8; DIGEST]
 
 /// Halfwords as bytes, the lower byte of each first.
 fn page_bytes(alloc: Global, halves: &[u16]) -> Result<Vec<u8>, NoMemory>
-    ensures { IfOk result (λ bytes. bytes.items ≡ page_bytes halves.now) }
+    ensures { IfOk result (λ bytes. bytes.items ≡ bytes_of_halves halves.now) }
 {
     let mut bytes = Vec::new(alloc);
     for half in halves {

@@ -3,7 +3,7 @@
 ghost use Rattle.std.specs.Prelude.{◌≡◌, ◌++◌, ◌<◌, IfOk, OnOk, IsSome, length, map};
 ghost use Rattle.std.specs.List.{AllByRecursion, flat_map};
 ghost use Rattle.trace_file.specs.Lawful.{IsState, IsDigest};
-ghost use Rattle.trace_file.specs.Trace.{told};
+ghost use Rattle.trace_file.specs.Trace.{told_of_trace};
 ghost use Rattle.run_trace.specs.Told.{vcpu_states, pages_digest, IsEntryInRange, IsToldBy, IsInRange};
 
 use crate::parts::{entry_of, memory_digest, pages_digest, vcpu_state};
@@ -67,8 +67,8 @@ fn pages_of(alloc: Global, views: &[View]) -> Result<Vec<[u8; DIGEST]>, NoMemory
 /// what it left. An Err is want of memory.
 pub fn trace_of_run(alloc: Global, board: &Board, views: &[View]) -> Result<Trace, NoMemory>
     requires { IsSome board.now.state.end }
-    ensures told { IfOk result (λ t. IsToldBy board.now views.now (told t)) }
-    ensures ranges { IfOk result (λ t. IsInRange (told t)) }
+    ensures told { IfOk result (λ t. IsToldBy board.now views.now (told_of_trace t)) }
+    ensures ranges { IfOk result (λ t. IsInRange (told_of_trace t)) }
 {
     let end = match board.end() {
         Some(end) => end,

@@ -13,8 +13,8 @@ use Rattle.rv_alu.specs.declared.AmoOp.{AmoOp}
 use Rattle.rv_alu.specs.declared.AmoOp.TheVariants.{Swap, Add as AmoAdd, Xor as AmoXor, And as AmoAnd, Or as AmoOr, Min, Max, MinU, MaxU}
 
 -- the number that these 64 bits are in two's complement
-abbrev pub signed : ℕ → ℤ
-signed a = cast_signed w64 a
+abbrev pub signed_doubleword : ℕ → ℤ
+signed_doubleword a = cast_signed w64 a
 
 abbrev pub bit_of : Bool → ℕ
 bit_of true = 1
@@ -22,30 +22,30 @@ bit_of false = 0
 
 -- whether a is below b, as signed numbers
 abbrev pub below : ℕ → ℕ → Bool
-below a b = int_lt (signed a) (signed b)
+below a b = int_lt (signed_doubleword a) (signed_doubleword b)
 
 -- shifted to the right, with copies of the sign
 abbrev pub shifted : ℕ → ℕ → ℕ
-shifted a by = cast_unsigned w64 (int_shr (signed a) by)
+shifted a by = cast_unsigned w64 (int_shr (signed_doubleword a) by)
 
 abbrev pub shifted_word : ℕ → ℕ → ℕ
 shifted_word a by = cast_unsigned w32 (int_shr (cast_signed w32 a) by)
 
 -- the upper half of a product of signed numbers
 abbrev pub product_top : ℕ → ℕ → ℕ
-product_top a b = cast_unsigned w128 (signed a *ℤ signed b) / 2 ^ 64
+product_top a b = cast_unsigned w128 (signed_doubleword a *ℤ signed_doubleword b) / 2 ^ 64
 
 -- the same of a signed number by an unsigned one
 abbrev pub product_top_mixed : ℕ → ℕ → ℕ
-product_top_mixed a b = cast_unsigned w128 (signed a *ℤ pos b) / 2 ^ 64
+product_top_mixed a b = cast_unsigned w128 (signed_doubleword a *ℤ pos b) / 2 ^ 64
 
 -- by zero all ones; the least number by -1 wraps round to itself
 abbrev pub quotient : ℕ → ℕ → ℕ
-quotient a b = if b == 0 then 2 ^ 64 - 1 else cast_unsigned w64 (int_div (signed a) (signed b))
+quotient a b = if b == 0 then 2 ^ 64 - 1 else cast_unsigned w64 (int_div (signed_doubleword a) (signed_doubleword b))
 
 -- by zero the dividend
 abbrev pub remainder : ℕ → ℕ → ℕ
-remainder a b = if b == 0 then a else cast_unsigned w64 (int_rem (signed a) (signed b))
+remainder a b = if b == 0 then a else cast_unsigned w64 (int_rem (signed_doubleword a) (signed_doubleword b))
 
 abbrev pub quotient_word : ℕ → ℕ → ℕ
 quotient_word a b = if b == 0 then 2 ^ 64 - 1 else sext32 (cast_unsigned w32 (int_div (cast_signed w32 a) (cast_signed w32 b)))

@@ -4,7 +4,7 @@
 //! no bit outside the mask of its format; what it is added to lies in the other bits.
 
 ghost use Rattle.std.specs.Prelude.{◌≡◌, ◌≤◌, ◌<◌, Some, None, if◌then◌else◌};
-ghost use Rattle.rv_words.specs.Words.{encode_of, fits_signed, wrapped, fits_plain, plain, word_u, word_j, word_i, word_b, word_s, word_s6, word_s5, word_r, word_v, word_c, word_ci, word_l, word_a};
+ghost use Rattle.rv_words.specs.Words.{encode_of, fits_signed, wrapped, fits_plain, plain_number, word_u, word_j, word_i, word_b, word_s, word_s6, word_s5, word_r, word_v, word_c, word_ci, word_l, word_a};
 
 use rv_decode::Inst;
 
@@ -78,7 +78,7 @@ fn signed_32(imm: i64) -> Option<u32>
 /// A number of `bits` bits with no sign.
 fn plain_bits(imm: i64, bits: u32) -> Option<u32>
     requires { bits < 32 }
-    ensures { result ≡ (if fits_plain bits imm then Some (plain imm) else None) }
+    ensures { result ≡ (if fits_plain bits imm then Some (plain_number imm) else None) }
 {
     let limit = 1i64 << bits;
     if imm >= 0 && imm < limit {

@@ -2,7 +2,7 @@
 use Rattle.std.proofs.Common.{◌≡◌, ℕ, zero, suc, ◌<◌, length, List, [], ◌∷◌, refl, ◌∙◌, arith, Bool, true, false, cond, eqb, eq-eqb, eqb-true}
 use Rattle.std.specs.Prelude.{nat_eq, bit_and, ◌&&◌, not, Option, Some, None, All, slice_index_or}
 use Rattle.std.specs.Int.Bits.{and_comm}
-use Rattle.rv_decode.specs.Rows.{Row, Fits, first_fit, rows, decode_of, compressed_rows, decode16_of}
+use Rattle.rv_decode.specs.Rows.{Row, IsOfRow, first_fit, rows, decode_of, compressed_rows, decode16_of}
 use Rattle.rv_decode.proofs.Known.{and_swap, and_left, and_right}
 
 pub data IsIn : Row → List Row → Type 0 where
@@ -71,21 +71,21 @@ is_in (r ∷ rs) zero d h = here r rs
 is_in (r ∷ rs) (suc k) d h = there (slice_index_or rs k d) r rs (is_in rs k d (omega arith))
 
 -- each row is the meaning of the words that fit it
-pub words_mean_rows : All (λ r. (w : ℕ) → Fits r w → decode_of w ≡ Some (r.reads w)) rows
+pub words_mean_rows : All (λ r. (w : ℕ) → IsOfRow r w → decode_of w ≡ Some (r.reads w)) rows
 unfolding decode_of
 words_mean_rows k d h w f = one_row w (slice_index_or rows k d) rows (is_in rows k d h) rows_apart f.0 f.1
 
-none_fits : (w : ℕ) (rs : List Row) → All (λ r. Fits r w → ⊥) rs → first_fit rs w ≡ None
+none_fits : (w : ℕ) (rs : List Row) → All (λ r. IsOfRow r w → ⊥) rs → first_fit rs w ≡ None
 none_fits w [] a = refl
 none_fits w (r ∷ rs) a =
-    let no : Fits r w → ⊥ = a 0 r (omega arith) in
-    let rest : All (λ s. Fits s w → ⊥) rs = (λ k d h. a (suc k) d (omega arith)) in
+    let no : IsOfRow r w → ⊥ = a 0 r (omega arith) in
+    let rest : All (λ s. IsOfRow s w → ⊥) rs = (λ k d h. a (suc k) d (omega arith)) in
     neither _ _ _ _ (λ p q. no (eqb-true _ _ p, q)) (none_fits w rs rest)
 
-pub no_word : (w : ℕ) → All (λ r. Fits r w → ⊥) rows → decode_of w ≡ None
+pub no_word : (w : ℕ) → All (λ r. IsOfRow r w → ⊥) rows → decode_of w ≡ None
 unfolding decode_of
 no_word w a = none_fits w rows a
 
-pub no_halfword : (h : ℕ) → All (λ r. Fits r h → ⊥) compressed_rows → decode16_of h ≡ None
+pub no_halfword : (h : ℕ) → All (λ r. IsOfRow r h → ⊥) compressed_rows → decode16_of h ≡ None
 unfolding decode16_of
 no_halfword h a = none_fits h compressed_rows a

@@ -2,7 +2,7 @@
 use Rattle.std.proofs.Common.{◌≡◌, ℕ, ◌-◌, ◌^◌, refl, ◌∙◌, Bool, true, false, cond, eqb, eq-eqb, eqb-true}
 use Rattle.std.specs.Prelude.{nat_eq, bit_and, not, Some, All}
 use Rattle.rv_decode.specs.Fields.{bits_of}
-use Rattle.rv_decode.specs.Rows.{Fits, compressed_rows, decode16_of}
+use Rattle.rv_decode.specs.Rows.{IsOfRow, compressed_rows, decode16_of}
 use Rattle.rv_decode.proofs.Known.{decode16_known, known_fit, known_field, and_left}
 use Rattle.rv_decode.proofs.Apart.{Each, all_from_each, skip}
 
@@ -21,7 +21,7 @@ not_it h m v k n x a b c e =
     let yes : nat_eq (bits_of h k n) x ≡ true = eq-eqb _ _ same in
     both_ways _ yes c
 
-each_means : Each (λ r. (h : ℕ) → Fits r h → decode16_of h ≡ Some (r.reads h)) compressed_rows
+each_means : Each (λ r. (h : ℕ) → IsOfRow r h → decode16_of h ≡ Some (r.reads h)) compressed_rows
 unfolding compressed_rows known_fit
 each_means = (
   (λ h f. decode16_known 0xe003 0x0000 h f.0 ∙ chosen _ _ _ f.1),
@@ -121,5 +121,5 @@ each_means = (
   ),
 )
 
-pub halfwords_mean_rows : All (λ r. (h : ℕ) → Fits r h → decode16_of h ≡ Some (r.reads h)) compressed_rows
-halfwords_mean_rows k d l = all_from_each (λ r. (h : ℕ) → Fits r h → decode16_of h ≡ Some (r.reads h)) compressed_rows each_means k d l
+pub halfwords_mean_rows : All (λ r. (h : ℕ) → IsOfRow r h → decode16_of h ≡ Some (r.reads h)) compressed_rows
+halfwords_mean_rows k d l = all_from_each (λ r. (h : ℕ) → IsOfRow r h → decode16_of h ≡ Some (r.reads h)) compressed_rows each_means k d l

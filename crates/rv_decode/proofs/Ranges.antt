@@ -4,7 +4,7 @@ use Rattle.std.specs.Prelude.{bit_and, Option, Some, ◌&&◌}
 use Rattle.std.proofs.lemmas.Bool.Decides.{nat_tests, leb_tells}
 use Rattle.rv_decode.specs.declared.Inst.{Inst}
 use Rattle.rv_decode.specs.Fields.{bits_of, signed, rd_of, rs1_of, rs2_of, csr_of, imm_i_of, imm_s_of, imm_b_of, imm_u_of, imm_j_of, shamt5_of, shamt6_of, uimm_of}
-use Rattle.rv_decode.specs.CompressedFields.{small_of, frame_of, upper_of, jump_of, branch_of}
+use Rattle.rv_decode.specs.CompressedFields.{small_of, frame_offset_of, upper_of, jump_of, branch_offset_of}
 use Rattle.rv_decode.specs.Rows.{Row, first_fit, rows, decode_of, compressed_rows, decode16_of}
 use Rattle.rv_decode.specs.Ranges.{IsBelow, IsPlain, IsEven, IsUpper, FieldsFit}
 
@@ -72,8 +72,8 @@ imm_s_fits w = signed_below 11 (bits_of w 25 7 * 2 ^ 5 + bits_of w 7 5) (omega a
 pub small_fits : (h : ℕ) → IsBelow 11 (small_of h)
 small_fits h = wider 5 11 (small_of h) (omega arith) (signed_below 5 (bits_of h 12 1 * 2 ^ 5 + bits_of h 2 5) (omega arith))
 
-pub frame_fits : (h : ℕ) → IsBelow 11 (frame_of h)
-frame_fits h = wider 9 11 (frame_of h) (omega arith) (signed_below 9 (bits_of h 12 1 * 2 ^ 9 + bits_of h 6 1 * 2 ^ 4 + bits_of h 5 1 * 2 ^ 6 + bits_of h 3 2 * 2 ^ 7 + bits_of h 2 1 * 2 ^ 5) (omega arith))
+pub frame_fits : (h : ℕ) → IsBelow 11 (frame_offset_of h)
+frame_fits h = wider 9 11 (frame_offset_of h) (omega arith) (signed_below 9 (bits_of h 12 1 * 2 ^ 9 + bits_of h 6 1 * 2 ^ 4 + bits_of h 5 1 * 2 ^ 6 + bits_of h 3 2 * 2 ^ 7 + bits_of h 2 1 * 2 ^ 5) (omega arith))
 
 pub upper_fits : (h : ℕ) → IsUpper (upper_of h)
 upper_fits h = signed_upper_18 (bits_of h 12 1 * 2 ^ 17 + bits_of h 2 5 * 2 ^ 12) (omega arith) (omega arith)
@@ -81,8 +81,8 @@ upper_fits h = signed_upper_18 (bits_of h 12 1 * 2 ^ 17 + bits_of h 2 5 * 2 ^ 12
 pub jump_fits : (h : ℕ) → IsBelow 20 (jump_of h) × IsEven (jump_of h)
 jump_fits h = (wider 11 20 (jump_of h) (omega arith) (signed_below 11 (bits_of h 12 1 * 2 ^ 11 + bits_of h 11 1 * 2 ^ 4 + bits_of h 9 2 * 2 ^ 8 + bits_of h 8 1 * 2 ^ 10 + bits_of h 7 1 * 2 ^ 6 + bits_of h 6 1 * 2 ^ 7 + bits_of h 3 3 * 2 ^ 1 + bits_of h 2 1 * 2 ^ 5) (omega arith)), signed_even 11 (bits_of h 12 1 * 2 ^ 11 + bits_of h 11 1 * 2 ^ 4 + bits_of h 9 2 * 2 ^ 8 + bits_of h 8 1 * 2 ^ 10 + bits_of h 7 1 * 2 ^ 6 + bits_of h 6 1 * 2 ^ 7 + bits_of h 3 3 * 2 ^ 1 + bits_of h 2 1 * 2 ^ 5) (omega arith) (omega arith))
 
-pub branch_fits : (h : ℕ) → IsBelow 12 (branch_of h) × IsEven (branch_of h)
-branch_fits h = (wider 8 12 (branch_of h) (omega arith) (signed_below 8 (bits_of h 12 1 * 2 ^ 8 + bits_of h 10 2 * 2 ^ 3 + bits_of h 5 2 * 2 ^ 6 + bits_of h 3 2 * 2 ^ 1 + bits_of h 2 1 * 2 ^ 5) (omega arith)), signed_even 8 (bits_of h 12 1 * 2 ^ 8 + bits_of h 10 2 * 2 ^ 3 + bits_of h 5 2 * 2 ^ 6 + bits_of h 3 2 * 2 ^ 1 + bits_of h 2 1 * 2 ^ 5) (omega arith) (omega arith))
+pub branch_fits : (h : ℕ) → IsBelow 12 (branch_offset_of h) × IsEven (branch_offset_of h)
+branch_fits h = (wider 8 12 (branch_offset_of h) (omega arith) (signed_below 8 (bits_of h 12 1 * 2 ^ 8 + bits_of h 10 2 * 2 ^ 3 + bits_of h 5 2 * 2 ^ 6 + bits_of h 3 2 * 2 ^ 1 + bits_of h 2 1 * 2 ^ 5) (omega arith)), signed_even 8 (bits_of h 12 1 * 2 ^ 8 + bits_of h 10 2 * 2 ^ 3 + bits_of h 5 2 * 2 ^ 6 + bits_of h 3 2 * 2 ^ 1 + bits_of h 2 1 * 2 ^ 5) (omega arith) (omega arith))
 
 of_row : (P : Inst → Type 0) (b p : Bool) (x i : Inst) (z : Option Inst) → (b ≡ true → P x) → (z ≡ Some i → P i) → cond (b && p) (Some x) z ≡ Some i → P i
 of_row P true true x i z h k e = let same : x ≡ i = cc in subst P same (h refl)

@@ -41,8 +41,8 @@ abbrev pub frame_bits_of : ℕ → ℕ
 frame_bits_of h =
     bits_of h 12 1 * 2 ^ 9 + bits_of h 6 1 * 2 ^ 4 + bits_of h 5 1 * 2 ^ 6 + bits_of h 3 2 * 2 ^ 7 + bits_of h 2 1 * 2 ^ 5
 
-abbrev pub frame_of : ℕ → ℤ
-frame_of h = signed 9 (frame_bits_of h)
+abbrev pub frame_offset_of : ℕ → ℤ
+frame_offset_of h = signed 9 (frame_bits_of h)
 
 -- C.LUI: bit 12 holds 17, bits 6:2 hold 16:12, signed
 abbrev pub upper_bits_of : ℕ → ℕ
@@ -62,8 +62,8 @@ jump_of h =
     + bits_of h 7 1 * 2 ^ 6 + bits_of h 6 1 * 2 ^ 7 + bits_of h 3 3 * 2 ^ 1 + bits_of h 2 1 * 2 ^ 5)
 
 -- C.BEQZ and C.BNEZ: bits 12:10 hold 8, 4:3, bits 6:2 hold 7:6, 2:1, 5, signed
-abbrev pub branch_of : ℕ → ℤ
-branch_of h =
+abbrev pub branch_offset_of : ℕ → ℤ
+branch_offset_of h =
     signed 8 (bits_of h 12 1 * 2 ^ 8 + bits_of h 10 2 * 2 ^ 3 + bits_of h 5 2 * 2 ^ 6 + bits_of h 3 2 * 2 ^ 1 + bits_of h 2 1 * 2 ^ 5)
 
 -- C.LWSP: bit 12 holds 5, bits 6:2 hold 4:2, 7:6

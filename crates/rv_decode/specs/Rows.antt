@@ -4,7 +4,7 @@ use Rattle.std.specs.Prelude.{◌≡◌, ℕ, pos, nat_eq, bit_and, if◌then◌
 use Rattle.rv_decode.specs.declared.Inst.{Inst}
 use Rattle.rv_decode.specs.declared.Inst.TheVariants.{Lui, Auipc, Jal, Jalr, Beq, Bne, Blt, Bge, Bltu, Bgeu, Lb, Lh, Lw, Ld, Lbu, Lhu, Lwu, Sb, Sh, Sw, Sd, Addi, Slti, Sltiu, Xori, Ori, Andi, Addiw, Slli, Srli, Srai, Slliw, Srliw, Sraiw, Add, Sub, Sll, Slt, Sltu, Xor, Srl, Sra, Or, And, Addw, Subw, Sllw, Srlw, Sraw, Mul, Mulh, Mulhsu, Mulhu, Div, Divu, Rem, Remu, Mulw, Divw, Divuw, Remw, Remuw, Fence, FenceI, Ecall, Ebreak, Sret, Wfi, SfenceVma, Csrrw, Csrrs, Csrrc, Csrrwi, Csrrsi, Csrrci, LrW, ScW, AmoswapW, AmoaddW, AmoxorW, AmoandW, AmoorW, AmominW, AmomaxW, AmominuW, AmomaxuW, LrD, ScD, AmoswapD, AmoaddD, AmoxorD, AmoandD, AmoorD, AmominD, AmomaxD, AmominuD, AmomaxuD}
 use Rattle.rv_decode.specs.Fields.{rd_of, rs1_of, rs2_of, csr_of, imm_i_of, imm_s_of, imm_u_of, imm_b_of, imm_j_of, shamt6_of, shamt5_of, uimm_of}
-use Rattle.rv_decode.specs.CompressedFields.{low_of, high_of, full_of, source_of, stack_bits_of, stack_of, word_offset_of, double_offset_of, small_of, frame_bits_of, frame_of, upper_bits_of, upper_of, amount_of, jump_of, branch_of, word_slot_of, double_slot_of, word_place_of, double_place_of}
+use Rattle.rv_decode.specs.CompressedFields.{low_of, high_of, full_of, source_of, stack_bits_of, stack_of, word_offset_of, double_offset_of, small_of, frame_bits_of, frame_offset_of, upper_bits_of, upper_of, amount_of, jump_of, branch_offset_of, word_slot_of, double_slot_of, word_place_of, double_place_of}
 
 -- a row: a word w is of it where `w & mask = value` and `when w`, and then means `reads w`
 pub record Row : Type 0 where
@@ -20,8 +20,8 @@ abbrev pub row_where : ℕ → ℕ → (ℕ → Bool) → (ℕ → Inst) → Row
 row_where m v p f = record { mask = m; value = v; when = p; reads = f }
 
 -- the word is of the row
-abbrev pub Fits : Row → ℕ → Type 0
-Fits r w = (bit_and w r.mask ≡ r.value) × (r.when w ≡ true)
+abbrev pub IsOfRow : Row → ℕ → Type 0
+IsOfRow r w = (bit_and w r.mask ≡ r.value) × (r.when w ≡ true)
 
 -- what the first row that fits makes of a word
 abbrev pub first_fit : List Row → ℕ → Option Inst
@@ -153,7 +153,7 @@ compressed_rows =
     row 0xe003 0x0001 (λ h. Addi (full_of h) (full_of h) (small_of h)) ∷
     row_where 0xe003 0x2001 (λ h. not (nat_eq (full_of h) 0)) (λ h. Addiw (full_of h) (full_of h) (small_of h)) ∷
     row 0xe003 0x4001 (λ h. Addi (full_of h) 0 (small_of h)) ∷
-    row_where 0xef83 0x6101 (λ h. not (nat_eq (frame_bits_of h) 0)) (λ h. Addi 2 2 (frame_of h)) ∷
+    row_where 0xef83 0x6101 (λ h. not (nat_eq (frame_bits_of h) 0)) (λ h. Addi 2 2 (frame_offset_of h)) ∷
     row_where 0xe003 0x6001 (λ h. not (nat_eq (full_of h) 2) && not (nat_eq (upper_bits_of h) 0)) (λ h. Lui (full_of h) (upper_of h)) ∷
     row 0xec03 0x8001 (λ h. Srli (high_of h) (high_of h) (amount_of h)) ∷
     row 0xec03 0x8401 (λ h. Srai (high_of h) (high_of h) (amount_of h)) ∷
@@ -165,8 +165,8 @@ compressed_rows =
     row 0xfc63 0x9c01 (λ h. Subw (high_of h) (high_of h) (low_of h)) ∷
     row 0xfc63 0x9c21 (λ h. Addw (high_of h) (high_of h) (low_of h)) ∷
     row 0xe003 0xa001 (λ h. Jal 0 (jump_of h)) ∷
-    row 0xe003 0xc001 (λ h. Beq (high_of h) 0 (branch_of h)) ∷
-    row 0xe003 0xe001 (λ h. Bne (high_of h) 0 (branch_of h)) ∷
+    row 0xe003 0xc001 (λ h. Beq (high_of h) 0 (branch_offset_of h)) ∷
+    row 0xe003 0xe001 (λ h. Bne (high_of h) 0 (branch_offset_of h)) ∷
     -- quadrant 2
     row 0xe003 0x0002 (λ h. Slli (full_of h) (full_of h) (amount_of h)) ∷
     row_where 0xe003 0x4002 (λ h. not (nat_eq (full_of h) 0)) (λ h. Lw (full_of h) 2 (word_slot_of h)) ∷

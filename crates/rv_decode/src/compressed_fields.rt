@@ -4,7 +4,7 @@
 //! nearly every form scatters its bits in another order.
 
 ghost use Rattle.std.specs.Prelude.{◌≡◌};
-ghost use Rattle.rv_decode.specs.CompressedFields.{low_of, high_of, full_of, source_of, stack_bits_of, word_offset_of, double_offset_of, small_of, frame_bits_of, frame_of, upper_bits_of, upper_of, amount_of, jump_of, branch_of, word_slot_of, double_slot_of, word_place_of, double_place_of};
+ghost use Rattle.rv_decode.specs.CompressedFields.{low_of, high_of, full_of, source_of, stack_bits_of, word_offset_of, double_offset_of, small_of, frame_bits_of, frame_offset_of, upper_bits_of, upper_of, amount_of, jump_of, branch_offset_of, word_slot_of, double_slot_of, word_place_of, double_place_of};
 
 /// The register of 8 to 15 that bits 4:2 name.
 pub fn low(h: u16) -> u8
@@ -81,7 +81,7 @@ pub fn frame_bits(h: u16) -> u32
 
 /// The immediate of C.ADDI16SP.
 pub fn frame(h: u16) -> i64
-    ensures { result ≡ frame_of h }
+    ensures { result ≡ frame_offset_of h }
 {
     let n = frame_bits(h);
     if n < 0x200 {
@@ -141,7 +141,7 @@ pub fn jump(h: u16) -> i64
 
 /// The distance of C.BEQZ and C.BNEZ.
 pub fn branch(h: u16) -> i64
-    ensures { result ≡ branch_of h }
+    ensures { result ≡ branch_offset_of h }
 {
     let w = h as u32;
     let n = ((w >> 12 & 0x1) << 8)

@@ -17,7 +17,7 @@
 
 ghost use Rattle.std.specs.Prelude.{◌≡◌, ℕ, Some, None, All};
 ghost use Rattle.rv_decode.specs.Ranges.{FieldsFit};
-ghost use Rattle.rv_decode.specs.Rows.{Fits, rows, decode_of, compressed_rows, decode16_of};
+ghost use Rattle.rv_decode.specs.Rows.{IsOfRow, rows, decode_of, compressed_rows, decode16_of};
 
 mod compressed;
 mod compressed_fields;
@@ -252,10 +252,10 @@ pub enum Inst {
 /// meaning. So no two rows share a word, and the order of the rows does not matter. Nothing runs here: this is the law
 /// that the tables define one meaning.
 pub fn rows_do_not_overlap()
-    ensures words { All (λ r. (w : ℕ) → Fits r w → decode_of w ≡ Some (r.reads w)) rows }
-    ensures halfwords { All (λ r. (h : ℕ) → Fits r h → decode16_of h ≡ Some (r.reads h)) compressed_rows }
-    ensures no_word { (w : ℕ) → All (λ r. Fits r w → ⊥) rows → decode_of w ≡ None }
-    ensures no_halfword { (h : ℕ) → All (λ r. Fits r h → ⊥) compressed_rows → decode16_of h ≡ None }
+    ensures words { All (λ r. (w : ℕ) → IsOfRow r w → decode_of w ≡ Some (r.reads w)) rows }
+    ensures halfwords { All (λ r. (h : ℕ) → IsOfRow r h → decode16_of h ≡ Some (r.reads h)) compressed_rows }
+    ensures no_word { (w : ℕ) → All (λ r. IsOfRow r w → ⊥) rows → decode_of w ≡ None }
+    ensures no_halfword { (h : ℕ) → All (λ r. IsOfRow r h → ⊥) compressed_rows → decode16_of h ≡ None }
 {}
 
 /// The law that each field of a decoded instruction is in its range: registers are below 32, an immediate fits its

@@ -6,7 +6,7 @@ use Rattle.fc_numbers.specs.declared.places.Span.{Span}
 use Rattle.fc_numbers.specs.Spans.{in_text}
 use Rattle.fc_numbers.proofs.TextLaws.{places_above}
 use Rattle.gstage.specs.declared.stage.Placed.TheVariants as placed_in
-use Rattle.gstage.specs.Stage.{IsFor, in_span, placed}
+use Rattle.gstage.specs.Stage.{IsFor, in_span, placed_among}
 use Rattle.guest_ram.specs.Ram.{Ram, is_inside, is_text, IsLaid}
 use Rattle.sv39_walk.specs.declared.Walked.{Walked}
 use Rattle.sv39_walk.specs.declared.Walked.TheVariants.{At, PageFault, AccessFault, TableInText}
@@ -33,7 +33,7 @@ placed_text text span p false outside is =
     ] is
 
 -- a place that a stage of this memory finds in text is in the text of the memory
-pub text_found : {text : List Span} {span : Span} (ram : Ram) (p : ℕ) → IsFor text span ram → placed_in.Text ≡ placed text span p → is_text ram p ≡ true
+pub text_found : {text : List Span} {span : Span} (ram : Ram) (p : ℕ) → IsFor text span ram → placed_in.Text ≡ placed_among text span p → is_text ram p ≡ true
 text_found {text = text} {span = span} ram p stage is =
     subst (λ (ss : List Span). in_text ss p ≡ true) stage.same_text (placed_text text span p (in_text text p) refl is)
 

@@ -23,7 +23,7 @@ use Rattle.fc_numbers.specs.declared.machine.End.TheVariants.{Shutdown as Shut}
 use Rattle.rv_step.specs.declared.vcpu.Effect.{Effect}
 use Rattle.rv_step.specs.declared.vcpu.Effect.TheVariants.{Next, Trap, End as Ends}
 use Rattle.rv_step.specs.Reach.{reached}
-use Rattle.rv_step.specs.Site.{Site, Outcome, moved, after, next, on_vcpu, on_memory, OnVcpu, OnMemory, OnDevices, of_vcpu, of_memory, of_devices}
+use Rattle.rv_step.specs.Site.{Site, Outcome, moved_to, after, next, on_vcpu, on_memory, OnVcpu, OnMemory, OnDevices, of_vcpu, of_memory, of_devices}
 use Rattle.rv_step.specs.Classes.{did_alu, did_put, did_jump, did_branch, did_nothing, did_load, did_store, did_amo, did_reserve, did_conditional, did_csr, did_call, did_return, did_fence, load_from, store_to, amo_at, reserve_at, conditional_at, is_reserved, is_writing, csr_by, csr_value, call_in, return_in, fence_in}
 use Rattle.rv_step.specs.Executed.{did, done_by}
 use Rattle.rv_step.specs.Kept.{ChangesOnNextAlone}
@@ -98,7 +98,7 @@ call_in_is_fair : (mode : Mode) (s : Site) (len clock : ℕ) → ChangesOnNextAl
 call_in_is_fair Vu s len clock = record { vcpu = refl; ram = refl; devices = refl; put = refl }
 call_in_is_fair Vs s len clock =
     let made = called s.devices s.vcpu.regs s.vcpu.number clock in
-    let on : Vcpu = moved (record s.vcpu { regs = made.regs }) (after s.vcpu len) in
+    let on : Vcpu = moved_to (record s.vcpu { regs = made.regs }) (after s.vcpu len) in
     answered_is_fair s made.answer
     (record { vcpu = on; ram = s.ram; devices = made.devices; put = None; effect = next })
     (λ byte. record { vcpu = on; ram = s.ram; devices = made.devices; put = Some byte; effect = next })

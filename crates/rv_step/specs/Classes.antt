@@ -36,7 +36,7 @@ use Rattle.rv_step.specs.declared.vcpu.Vcpu.{Vcpu}
 use Rattle.rv_step.specs.declared.vcpu.Effect.{Effect}
 use Rattle.rv_step.specs.declared.vcpu.Effect.TheVariants.{Next, Trap, End as Ends}
 use Rattle.rv_step.specs.Reach.{reached}
-use Rattle.rv_step.specs.Site.{Site, Outcome, OnVcpu, OnMemory, OnDevices, on_vcpu, on_memory, on_devices, of_vcpu, reg_of, source_value, num, moved, after, wrote, next, plus}
+use Rattle.rv_step.specs.Site.{Site, Outcome, OnVcpu, OnMemory, OnDevices, on_vcpu, on_memory, on_devices, of_vcpu, reg_of, source_value, num, moved_to, after, wrote, next, plus}
 
 -- arithmetic on a register and a source
 unfoldable pub did_alu : Vcpu → ℕ → Alu → OnVcpu
@@ -47,18 +47,18 @@ did_put v len rd x = on_vcpu (wrote v len rd x) next
 
 -- rd holds the address after the jump
 unfoldable pub did_jump : Vcpu → ℕ → ℕ → ℕ → OnVcpu
-did_jump v len rd to = on_vcpu (moved (wrote v len rd (after v len)) to) next
+did_jump v len rd to = on_vcpu (moved_to (wrote v len rd (after v len)) to) next
 
 unfoldable pub did_branch : Vcpu → ℕ → Branch → OnVcpu
 did_branch v len i =
-    on_vcpu (moved v (if branch_of i.op (reg_of v i.rs1) (reg_of v i.rs2) then plus v.pc i.imm else after v len)) next
+    on_vcpu (moved_to v (if branch_of i.op (reg_of v i.rs1) (reg_of v i.rs2) then plus v.pc i.imm else after v len)) next
 
 unfoldable pub did_nothing : Vcpu → ℕ → OnVcpu
-did_nothing v len = on_vcpu (moved v (after v len)) next
+did_nothing v len = on_vcpu (moved_to v (after v len)) next
 
 -- an exception leaves all as it was
-abbrev pub trapped : Vcpu → ℕ → ℕ → OnVcpu
-trapped v cause tval = on_vcpu v (Trap cause tval)
+abbrev pub trap_on_vcpu : Vcpu → ℕ → ℕ → OnVcpu
+trap_on_vcpu v cause tval = on_vcpu v (Trap cause tval)
 
 -- a number of so many bytes, extended to 64 bits by its sign or by zeros
 abbrev pub extended : Width → Sign → ℕ → ℕ
@@ -75,7 +75,7 @@ unfoldable pub did_load : Vcpu → Ram → ℕ → Load → OnVcpu
 did_load v ram len i = load_from v ram len i (reached v ram access.Load i.width (plus (reg_of v i.rs1) i.imm))
 
 abbrev pub store_to : Vcpu → Ram → ℕ → Store → Result ℕ Effect → OnMemory
-store_to v ram len i (Ok p) = on_memory (moved v (after v len)) (with_value ram p i.width (reg_of v i.rs2)) (Next (Some p))
+store_to v ram len i (Ok p) = on_memory (moved_to v (after v len)) (with_value ram p i.width (reg_of v i.rs2)) (Next (Some p))
 store_to v ram len i (Err effect) = on_memory v ram effect
 
 unfoldable pub did_store : Vcpu → Ram → ℕ → Store → OnMemory
@@ -164,13 +164,13 @@ did_csr v d len i clock = csr_by v d len i (csr_value v d i.csr clock)
 -- a shutdown leaves all as it was
 abbrev pub called_by : Site → ℕ → Called → Outcome
 called_by s len made = elim made.answer [
-  | Done ↦ record { vcpu = moved (record s.vcpu { regs = made.regs }) (after s.vcpu len); ram = s.ram; devices = made.devices; put = None; effect = next }
-  | Put byte ↦ record { vcpu = moved (record s.vcpu { regs = made.regs }) (after s.vcpu len); ram = s.ram; devices = made.devices; put = Some byte; effect = next }
+  | Done ↦ record { vcpu = moved_to (record s.vcpu { regs = made.regs }) (after s.vcpu len); ram = s.ram; devices = made.devices; put = None; effect = next }
+  | Put byte ↦ record { vcpu = moved_to (record s.vcpu { regs = made.regs }) (after s.vcpu len); ram = s.ram; devices = made.devices; put = Some byte; effect = next }
   | Shutdown ↦ record { vcpu = s.vcpu; ram = s.ram; devices = s.devices; put = None; effect = Ends Shut }
 ]
 
 abbrev pub call_in : Mode → Site → ℕ → ℕ → Outcome
-call_in Vu s len clock = of_vcpu s (trapped s.vcpu USER_CALL 0)
+call_in Vu s len clock = of_vcpu s (trap_on_vcpu s.vcpu USER_CALL 0)
 call_in Vs s len clock = called_by s len (called s.devices s.vcpu.regs s.vcpu.number clock)
 
 -- ECALL in supervisor mode is a call that the devices answer, and no trap
@@ -186,7 +186,7 @@ did_return v = return_in v.mode v
 
 abbrev pub fence_in : Mode → Vcpu → ℕ → OnVcpu
 fence_in Vu v len = on_vcpu v illegal_effect
-fence_in Vs v len = on_vcpu (moved v (after v len)) next
+fence_in Vs v len = on_vcpu (moved_to v (after v len)) next
 
 unfoldable pub did_fence : Vcpu → ℕ → OnVcpu
 did_fence v len = fence_in v.mode v len

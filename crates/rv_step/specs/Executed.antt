@@ -7,7 +7,7 @@ use Rattle.rv_kinds.specs.declared.Kind.TheVariants.{Alu, Branch, Load, Store, L
 use Rattle.rv_kinds.specs.Kinds.{kind_of}
 use Rattle.rv_step.specs.declared.causes.TheConstants.{BREAKPOINT}
 use Rattle.rv_step.specs.Site.{Site, Outcome, of_vcpu, of_memory, of_devices, reg_of, num, plus}
-use Rattle.rv_step.specs.Classes.{did_alu, did_put, did_jump, did_branch, did_nothing, did_load, did_store, did_amo, did_reserve, did_conditional, did_csr, did_call, did_return, did_fence, trapped}
+use Rattle.rv_step.specs.Classes.{did_alu, did_put, did_jump, did_branch, did_nothing, did_load, did_store, did_amo, did_reserve, did_conditional, did_csr, did_call, did_return, did_fence, trap_on_vcpu}
 
 -- JALR clears bit 0 of its target; a jump's link and every next address count from the instruction's length
 unfoldable pub done_by : Kind → ℕ → ℕ → Site → Outcome
@@ -21,7 +21,7 @@ done_by (Jal rd imm) len clock s = of_vcpu s (did_jump s.vcpu len rd (plus s.vcp
 done_by (Jalr rd rs1 imm) len clock s = of_vcpu s (did_jump s.vcpu len rd (bit_and (plus (reg_of s.vcpu rs1) imm) 0xfffffffffffffffe))
 done_by Nothing len clock s = of_vcpu s (did_nothing s.vcpu len)
 done_by Call len clock s = did_call s len clock
-done_by Break len clock s = of_vcpu s (trapped s.vcpu BREAKPOINT s.vcpu.pc)
+done_by Break len clock s = of_vcpu s (trap_on_vcpu s.vcpu BREAKPOINT s.vcpu.pc)
 done_by Return len clock s = of_vcpu s (did_return s.vcpu)
 done_by FenceVma len clock s = of_vcpu s (did_fence s.vcpu len)
 done_by (Csr i) len clock s = of_devices s (did_csr s.vcpu s.devices len i clock)

@@ -17,8 +17,8 @@ use Rattle.rv_step.specs.declared.resolve.Resolved.TheVariants as place
 use Rattle.rv_step.specs.Causes.{access_fault_cause, misaligned_cause, page_fault_cause}
 use Rattle.rv_step.specs.Site.{resolved}
 
-abbrev pub is_aligned : ℕ → Width → Bool
-is_aligned at width = nat_eq (at % count_of width) 0
+abbrev pub is_access_aligned : ℕ → Width → Bool
+is_access_aligned at width = nat_eq (at % count_of width) 0
 
 -- kernel text may be read, and a store to it stops the run
 abbrev pub reached_text : Access → ℕ → Result ℕ Effect
@@ -36,7 +36,7 @@ reached_at access at place.TableInText = Err (Ends (Stopped TableInText))
 -- the place, or what the instruction comes to instead
 unfoldable pub reached : Vcpu → Ram → Access → Width → ℕ → Result ℕ Effect
 reached v ram access width at =
-    if is_aligned at width then reached_at access at (resolved v ram access at) else Err (Trap (misaligned_cause access) at)
+    if is_access_aligned at width then reached_at access at (resolved v ram access at) else Err (Trap (misaligned_cause access) at)
 
 -- a place that a store reaches is not in text
 abbrev pub IsOpenTo : Access → Ram → ℕ → Type 0

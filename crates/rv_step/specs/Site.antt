@@ -70,8 +70,8 @@ on_devices v devices effect = record { vcpu = v; devices = devices; effect = eff
 abbrev pub reg_of : Vcpu → ℕ → ℕ
 reg_of v n = get_reg v.regs (n % 32)
 
-abbrev pub moved : Vcpu → ℕ → Vcpu
-moved v pc = record v { pc = pc }
+abbrev pub moved_to : Vcpu → ℕ → Vcpu
+moved_to v pc = record v { pc = pc }
 
 -- the address after an instruction of so many bytes
 abbrev pub after : Vcpu → ℕ → ℕ

@@ -2,7 +2,7 @@
 
 ghost use Rattle.std.specs.Prelude.{◌≡◌, ◌+◌, ◌%◌, ◌^◌, ◌<◌, None};
 ghost use Rattle.rv_alu.specs.Alu.{alu_of, branch_of};
-ghost use Rattle.rv_step.specs.Site.{OnVcpu, reg_of, source_value, wrote, moved, after, plus};
+ghost use Rattle.rv_step.specs.Site.{OnVcpu, reg_of, source_value, wrote, moved_to, after, plus};
 ghost use Rattle.rv_step.specs.Classes.{did_alu, did_put, did_jump, did_branch, did_nothing};
 
 use crate::vcpu::{Effect, Vcpu, following, register, relative, source_value, write_back};

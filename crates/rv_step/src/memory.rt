@@ -8,7 +8,7 @@ ghost use Rattle.guest_ram.specs.Ram.{is_inside, is_text, value, with_value, Can
 ghost use Rattle.rv_alu.specs.Alu.{amo_of};
 ghost use Rattle.sv39_walk.specs.Cache.{Fits, KeepsFits};
 ghost use Rattle.rv_step.specs.Reach.{reached, IsReached};
-ghost use Rattle.rv_step.specs.Site.{OnVcpu, OnMemory, wrote, moved, after};
+ghost use Rattle.rv_step.specs.Site.{OnVcpu, OnMemory, wrote, moved_to, after};
 ghost use Rattle.rv_step.specs.Classes.{did_load, did_store, did_amo, did_reserve, did_conditional, extended, load_from, store_to, amo_at, reserve_at, conditional_at, doubleword_of, is_reserved};
 
 use crate::reach::reach;

@@ -3,7 +3,7 @@
 ghost use Rattle.std.specs.Prelude.{◌≡◌, ◌<◌, ◌%◌, ◌^◌, IfOk};
 ghost use Rattle.gstage.specs.Stage.{IsFor};
 ghost use Rattle.sv39_walk.specs.Cache.{Fits};
-ghost use Rattle.rv_step.specs.Reach.{is_aligned, reached, IsReached};
+ghost use Rattle.rv_step.specs.Reach.{is_access_aligned, reached, IsReached};
 
 use crate::causes::{access_fault_cause, misaligned_cause, page_fault_cause};
 use crate::resolve::{Resolved, resolve};
@@ -15,7 +15,7 @@ use guest_ram::GuestRam;
 use sv39_walk::cache::WalkCache;
 
 fn is_aligned(at: u64, width: Width) -> bool
-    ensures { result ≡ is_aligned at width }
+    ensures { result ≡ is_access_aligned at width }
 {
     match width {
         Width::Byte => true,

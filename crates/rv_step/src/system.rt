@@ -4,7 +4,7 @@ ghost use Rattle.std.specs.Prelude.{◌≡◌, ◌<◌, ◌≤◌, ◌+◌, ◌-
 ghost use Rattle.guest_ram.specs.Ram.{Ram};
 ghost use Rattle.device_feed.specs.Devices.{lines_of, with_soft};
 ghost use Rattle.device_feed.specs.Calls.{Called, called};
-ghost use Rattle.rv_step.specs.Site.{OnVcpu, OnDevices, Outcome, Site, wrote, moved, after, source_value};
+ghost use Rattle.rv_step.specs.Site.{OnVcpu, OnDevices, Outcome, Site, wrote, moved_to, after, source_value};
 ghost use Rattle.rv_step.specs.Classes.{did_csr, did_call, did_return, did_fence, changed, fed, csr_value, called_by, is_writing, is_zero, illegal_effect};
 
 use crate::causes::{ILLEGAL_INSTRUCTION, USER_CALL};

@@ -7,7 +7,7 @@ use Rattle.rv_decode.specs.Rows.{rows, decode_of}
 use Rattle.rv_decode.specs.Fields.{bits_of, signed, rd_of, rs1_of, rs2_of, csr_of, imm_i_of, imm_s_of, imm_b_of, imm_u_of, imm_j_of, shamt5_of, shamt6_of, uimm_of}
 use Rattle.rv_decode.proofs.Known.{known_field}
 use Rattle.rv_decode.proofs.Ranges.{EachOf, fit_has, decoded_fits}
-use Rattle.rv_words.specs.Words.{wrapped, plain, b_put, s_put, j_put, encode_of, word_u, word_j, word_i, word_b, word_s, word_s6, word_s5, word_r, word_v, word_c, word_ci, word_l, word_a}
+use Rattle.rv_words.specs.Words.{wrapped, plain_number, b_put, s_put, j_put, encode_of, word_u, word_j, word_i, word_b, word_s, word_s6, word_s5, word_r, word_v, word_c, word_ci, word_l, word_a}
 use Rattle.std.proofs.lemmas.Nat.{and_le_l}
 use Rattle.rv_words.proofs.Words.{some_if}
 use Rattle.rv_words.proofs.Whole.{has_word, fields_have_word}
@@ -77,7 +77,7 @@ word_s-least v w x summed known e =
 
 word_s6-least : (v w x : ℕ) → bits_of v 0 7 * 2 ^ 0 + bits_of v 12 3 * 2 ^ 12 + bits_of v 26 6 * 2 ^ 26 ≡ v → bit_and w 0xfc00707f ≡ v → word_s6 v (rd_of w) (rs1_of w) (shamt6_of w) ≡ Some x → x ≤ w
 word_s6-least v w x summed known e =
-    let is : x ≡ v + (rd_of w) * 2 ^ 7 + (rs1_of w) * 2 ^ 15 + plain (shamt6_of w) * 2 ^ 20 = (some_if _ _ _ e).1 in
+    let is : x ≡ v + (rd_of w) * 2 ^ 7 + (rs1_of w) * 2 ^ 15 + plain_number (shamt6_of w) * 2 ^ 20 = (some_if _ _ _ e).1 in
     let k0 : bits_of w 0 7 ≡ bits_of v 0 7 = known_field w 0xfc00707f v 0 7 known refl in
     let k12 : bits_of w 12 3 ≡ bits_of v 12 3 = known_field w 0xfc00707f v 12 3 known refl in
     let k26 : bits_of w 26 6 ≡ bits_of v 26 6 = known_field w 0xfc00707f v 26 6 known refl in
@@ -86,7 +86,7 @@ word_s6-least v w x summed known e =
 
 word_s5-least : (v w x : ℕ) → bits_of v 0 7 * 2 ^ 0 + bits_of v 12 3 * 2 ^ 12 + bits_of v 25 7 * 2 ^ 25 ≡ v → bit_and w 0xfe00707f ≡ v → word_s5 v (rd_of w) (rs1_of w) (shamt5_of w) ≡ Some x → x ≤ w
 word_s5-least v w x summed known e =
-    let is : x ≡ v + (rd_of w) * 2 ^ 7 + (rs1_of w) * 2 ^ 15 + plain (shamt5_of w) * 2 ^ 20 = (some_if _ _ _ e).1 in
+    let is : x ≡ v + (rd_of w) * 2 ^ 7 + (rs1_of w) * 2 ^ 15 + plain_number (shamt5_of w) * 2 ^ 20 = (some_if _ _ _ e).1 in
     let k0 : bits_of w 0 7 ≡ bits_of v 0 7 = known_field w 0xfe00707f v 0 7 known refl in
     let k12 : bits_of w 12 3 ≡ bits_of v 12 3 = known_field w 0xfe00707f v 12 3 known refl in
     let k25 : bits_of w 25 7 ≡ bits_of v 25 7 = known_field w 0xfe00707f v 25 7 known refl in
@@ -120,7 +120,7 @@ word_c-least v w x summed known e =
 
 word_ci-least : (v w x : ℕ) → bits_of v 0 7 * 2 ^ 0 + bits_of v 12 3 * 2 ^ 12 ≡ v → bit_and w 0x707f ≡ v → word_ci v (rd_of w) (uimm_of w) (csr_of w) ≡ Some x → x ≤ w
 word_ci-least v w x summed known e =
-    let is : x ≡ v + (rd_of w) * 2 ^ 7 + plain (uimm_of w) * 2 ^ 15 + (csr_of w) * 2 ^ 20 = (some_if _ _ _ e).1 in
+    let is : x ≡ v + (rd_of w) * 2 ^ 7 + plain_number (uimm_of w) * 2 ^ 15 + (csr_of w) * 2 ^ 20 = (some_if _ _ _ e).1 in
     let k0 : bits_of w 0 7 ≡ bits_of v 0 7 = known_field w 0x707f v 0 7 known refl in
     let k12 : bits_of w 12 3 ≡ bits_of v 12 3 = known_field w 0x707f v 12 3 known refl in
     let parts : bits_of w 0 7 * 2 ^ 0 + bits_of w 7 5 * 2 ^ 7 + bits_of w 12 3 * 2 ^ 12 + bits_of w 15 5 * 2 ^ 15 + bits_of w 20 12 * 2 ^ 20 ≤ w = omega arith in

@@ -7,7 +7,7 @@ use Rattle.rv_decode.specs.declared.Inst.TheVariants.{Lui, Auipc, Jal, Jalr, Beq
 use Rattle.rv_decode.specs.Rows.{rows, decode_of}
 use Rattle.rv_decode.specs.Fields.{bits_of, signed, rd_of, rs1_of, rs2_of, csr_of, imm_i_of, imm_s_of, imm_b_of, imm_u_of, imm_j_of, shamt5_of, shamt6_of, uimm_of}
 use Rattle.rv_decode.proofs.Known.{and_join, field_known, decode_known, known_fit}
-use Rattle.rv_words.specs.Words.{fits_signed, wrapped, fits_plain, plain, is_register, b_put, s_put, j_put, encode_of, word_u, word_j, word_i, word_b, word_s, word_s6, word_s5, word_r, word_v, word_c, word_ci, word_l, word_a}
+use Rattle.rv_words.specs.Words.{fits_signed, wrapped, fits_plain, plain_number, is_register, b_put, s_put, j_put, encode_of, word_u, word_j, word_i, word_b, word_s, word_s6, word_s5, word_r, word_v, word_c, word_ci, word_l, word_a}
 
 signed_wrapped : (k : ℕ) (z : ℤ) → fits_signed k z ≡ true → signed k (wrapped k z) ≡ z
 signed_wrapped k (pos n) h = grind (arith, nat_tests)
@@ -21,11 +21,11 @@ wrapped_fits k (negsuc n) h =
     let two : 2 ^ (k + 1) ≡ 2 ^ k + 2 ^ k = rw add-one (pow-suc 2 k ∙ (omega arith)) in
     grind (arith, nat_tests, two)
 
-pos_plain : (k : ℕ) (z : ℤ) → fits_plain k z ≡ true → pos (plain z) ≡ z
+pos_plain : (k : ℕ) (z : ℤ) → fits_plain k z ≡ true → pos (plain_number z) ≡ z
 pos_plain k (pos n) h = refl
 pos_plain k (negsuc n) h = cc
 
-plain_fits : (k : ℕ) (z : ℤ) → fits_plain k z ≡ true → plain z < 2 ^ k
+plain_fits : (k : ℕ) (z : ℤ) → fits_plain k z ≡ true → plain_number z < 2 ^ k
 plain_fits k (pos n) h = grind (arith, nat_tests)
 plain_fits k (negsuc n) h = absurd (cc)
 
@@ -130,7 +130,7 @@ word_s-parts v rs1 rs2 imm w joined summed e =
 
 word_s6-parts : (v : ℕ) (rd : ℕ) (rs1 : ℕ) (imm : ℤ) (w : ℕ) → (bit_or (bit_or (bits_of v 0 7 * 2 ^ 0) (bits_of v 12 3 * 2 ^ 12)) (bits_of v 26 6 * 2 ^ 26)) ≡ v → bits_of v 0 7 * 2 ^ 0 + bits_of v 12 3 * 2 ^ 12 + bits_of v 26 6 * 2 ^ 26 ≡ v → word_s6 v rd rs1 imm ≡ Some w → (bit_and w 0xfc00707f ≡ v) × (rd_of w ≡ rd) × (rs1_of w ≡ rs1) × (shamt6_of w ≡ imm)
 word_s6-parts v rd rs1 imm w joined summed e =
-    let got : ((is_register rd && (is_register rs1 && (fits_plain 6 imm))) ≡ true) × (w ≡ v + rd * 2 ^ 7 + rs1 * 2 ^ 15 + plain imm * 2 ^ 20) = some_if _ _ _ e in
+    let got : ((is_register rd && (is_register rs1 && (fits_plain 6 imm))) ≡ true) × (w ≡ v + rd * 2 ^ 7 + rs1 * 2 ^ 15 + plain_number imm * 2 ^ 20) = some_if _ _ _ e in
     let p0 : (is_register rd ≡ true) × ((is_register rs1 && (fits_plain 6 imm)) ≡ true) = both _ _ got.0 in
     let c0 : is_register rd ≡ true = p0.0 in
     let p1 : (is_register rs1 ≡ true) × ((fits_plain 6 imm) ≡ true) = both _ _ p0.1 in
@@ -138,18 +138,18 @@ word_s6-parts v rd rs1 imm w joined summed e =
     let c2 : fits_plain 6 imm ≡ true = p1.1 in
     let r0 : rd < 32 = grind (arith, nat_tests, c0) in
     let r1 : rs1 < 32 = grind (arith, nat_tests, c1) in
-    let r2 : plain imm < 64 = plain_fits 6 imm c2 in
-    let s2 : pos (plain imm) ≡ imm = pos_plain 6 imm c2 in
-    let is : w ≡ v + rd * 2 ^ 7 + rs1 * 2 ^ 15 + plain imm * 2 ^ 20 = got.1 in
+    let r2 : plain_number imm < 64 = plain_fits 6 imm c2 in
+    let s2 : pos (plain_number imm) ≡ imm = pos_plain 6 imm c2 in
+    let is : w ≡ v + rd * 2 ^ 7 + rs1 * 2 ^ 15 + plain_number imm * 2 ^ 20 = got.1 in
     let x0 : bits_of w 0 7 ≡ bits_of v 0 7 = omega arith in
     let x12 : bits_of w 12 3 ≡ bits_of v 12 3 = omega arith in
     let x26 : bits_of w 26 6 ≡ bits_of v 26 6 = omega arith in
-    let raw : bits_of w 20 6 ≡ plain imm = omega arith in
+    let raw : bits_of w 20 6 ≡ plain_number imm = omega arith in
     ((and_join w 0x707f _ 0xfc000000 _ (and_join w 0x7f _ 0x7000 _ (field_known w 0 7 _ x0) (field_known w 12 3 _ x12)) (field_known w 26 6 _ x26)) ∙ joined, omega arith, omega arith, ap (λ y. pos y) raw ∙ s2)
 
 word_s5-parts : (v : ℕ) (rd : ℕ) (rs1 : ℕ) (imm : ℤ) (w : ℕ) → (bit_or (bit_or (bits_of v 0 7 * 2 ^ 0) (bits_of v 12 3 * 2 ^ 12)) (bits_of v 25 7 * 2 ^ 25)) ≡ v → bits_of v 0 7 * 2 ^ 0 + bits_of v 12 3 * 2 ^ 12 + bits_of v 25 7 * 2 ^ 25 ≡ v → word_s5 v rd rs1 imm ≡ Some w → (bit_and w 0xfe00707f ≡ v) × (rd_of w ≡ rd) × (rs1_of w ≡ rs1) × (shamt5_of w ≡ imm)
 word_s5-parts v rd rs1 imm w joined summed e =
-    let got : ((is_register rd && (is_register rs1 && (fits_plain 5 imm))) ≡ true) × (w ≡ v + rd * 2 ^ 7 + rs1 * 2 ^ 15 + plain imm * 2 ^ 20) = some_if _ _ _ e in
+    let got : ((is_register rd && (is_register rs1 && (fits_plain 5 imm))) ≡ true) × (w ≡ v + rd * 2 ^ 7 + rs1 * 2 ^ 15 + plain_number imm * 2 ^ 20) = some_if _ _ _ e in
     let p0 : (is_register rd ≡ true) × ((is_register rs1 && (fits_plain 5 imm)) ≡ true) = both _ _ got.0 in
     let c0 : is_register rd ≡ true = p0.0 in
     let p1 : (is_register rs1 ≡ true) × ((fits_plain 5 imm) ≡ true) = both _ _ p0.1 in
@@ -157,13 +157,13 @@ word_s5-parts v rd rs1 imm w joined summed e =
     let c2 : fits_plain 5 imm ≡ true = p1.1 in
     let r0 : rd < 32 = grind (arith, nat_tests, c0) in
     let r1 : rs1 < 32 = grind (arith, nat_tests, c1) in
-    let r2 : plain imm < 32 = plain_fits 5 imm c2 in
-    let s2 : pos (plain imm) ≡ imm = pos_plain 5 imm c2 in
-    let is : w ≡ v + rd * 2 ^ 7 + rs1 * 2 ^ 15 + plain imm * 2 ^ 20 = got.1 in
+    let r2 : plain_number imm < 32 = plain_fits 5 imm c2 in
+    let s2 : pos (plain_number imm) ≡ imm = pos_plain 5 imm c2 in
+    let is : w ≡ v + rd * 2 ^ 7 + rs1 * 2 ^ 15 + plain_number imm * 2 ^ 20 = got.1 in
     let x0 : bits_of w 0 7 ≡ bits_of v 0 7 = omega arith in
     let x12 : bits_of w 12 3 ≡ bits_of v 12 3 = omega arith in
     let x25 : bits_of w 25 7 ≡ bits_of v 25 7 = omega arith in
-    let raw : bits_of w 20 5 ≡ plain imm = omega arith in
+    let raw : bits_of w 20 5 ≡ plain_number imm = omega arith in
     ((and_join w 0x707f _ 0xfe000000 _ (and_join w 0x7f _ 0x7000 _ (field_known w 0 7 _ x0) (field_known w 12 3 _ x12)) (field_known w 25 7 _ x25)) ∙ joined, omega arith, omega arith, ap (λ y. pos y) raw ∙ s2)
 
 word_r-parts : (v : ℕ) (rd : ℕ) (rs1 : ℕ) (rs2 : ℕ) (w : ℕ) → (bit_or (bit_or (bits_of v 0 7 * 2 ^ 0) (bits_of v 12 3 * 2 ^ 12)) (bits_of v 25 7 * 2 ^ 25)) ≡ v → bits_of v 0 7 * 2 ^ 0 + bits_of v 12 3 * 2 ^ 12 + bits_of v 25 7 * 2 ^ 25 ≡ v → word_r v rd rs1 rs2 ≡ Some w → (bit_and w 0xfe00707f ≡ v) × (rd_of w ≡ rd) × (rs1_of w ≡ rs1) × (rs2_of w ≡ rs2)
@@ -214,20 +214,20 @@ word_c-parts v rd rs1 csr w joined summed e =
 
 word_ci-parts : (v : ℕ) (rd : ℕ) (imm : ℤ) (csr : ℕ) (w : ℕ) → (bit_or (bits_of v 0 7 * 2 ^ 0) (bits_of v 12 3 * 2 ^ 12)) ≡ v → bits_of v 0 7 * 2 ^ 0 + bits_of v 12 3 * 2 ^ 12 ≡ v → word_ci v rd imm csr ≡ Some w → (bit_and w 0x707f ≡ v) × (rd_of w ≡ rd) × (uimm_of w ≡ imm) × (csr_of w ≡ csr)
 word_ci-parts v rd imm csr w joined summed e =
-    let got : ((is_register rd && (fits_plain 5 imm && (nat_lt csr (2 ^ 12)))) ≡ true) × (w ≡ v + rd * 2 ^ 7 + plain imm * 2 ^ 15 + csr * 2 ^ 20) = some_if _ _ _ e in
+    let got : ((is_register rd && (fits_plain 5 imm && (nat_lt csr (2 ^ 12)))) ≡ true) × (w ≡ v + rd * 2 ^ 7 + plain_number imm * 2 ^ 15 + csr * 2 ^ 20) = some_if _ _ _ e in
     let p0 : (is_register rd ≡ true) × ((fits_plain 5 imm && (nat_lt csr (2 ^ 12))) ≡ true) = both _ _ got.0 in
     let c0 : is_register rd ≡ true = p0.0 in
     let p1 : (fits_plain 5 imm ≡ true) × ((nat_lt csr (2 ^ 12)) ≡ true) = both _ _ p0.1 in
     let c1 : fits_plain 5 imm ≡ true = p1.0 in
     let c2 : nat_lt csr (2 ^ 12) ≡ true = p1.1 in
     let r0 : rd < 32 = grind (arith, nat_tests, c0) in
-    let r1 : plain imm < 32 = plain_fits 5 imm c1 in
-    let s1 : pos (plain imm) ≡ imm = pos_plain 5 imm c1 in
+    let r1 : plain_number imm < 32 = plain_fits 5 imm c1 in
+    let s1 : pos (plain_number imm) ≡ imm = pos_plain 5 imm c1 in
     let r2 : csr < 4096 = grind (arith, nat_tests, c2) in
-    let is : w ≡ v + rd * 2 ^ 7 + plain imm * 2 ^ 15 + csr * 2 ^ 20 = got.1 in
+    let is : w ≡ v + rd * 2 ^ 7 + plain_number imm * 2 ^ 15 + csr * 2 ^ 20 = got.1 in
     let x0 : bits_of w 0 7 ≡ bits_of v 0 7 = omega arith in
     let x12 : bits_of w 12 3 ≡ bits_of v 12 3 = omega arith in
-    let raw : bits_of w 15 5 ≡ plain imm = omega arith in
+    let raw : bits_of w 15 5 ≡ plain_number imm = omega arith in
     ((and_join w 0x7f _ 0x7000 _ (field_known w 0 7 _ x0) (field_known w 12 3 _ x12)) ∙ joined, omega arith, ap (λ y. pos y) raw ∙ s1, omega arith)
 
 word_l-parts : (v : ℕ) (rd : ℕ) (rs1 : ℕ) (w : ℕ) → (bit_or (bit_or (bit_or (bits_of v 0 7 * 2 ^ 0) (bits_of v 12 3 * 2 ^ 12)) (bits_of v 27 5 * 2 ^ 27)) (bits_of v 20 5 * 2 ^ 20)) ≡ v → bits_of v 0 7 * 2 ^ 0 + bits_of v 12 3 * 2 ^ 12 + bits_of v 27 5 * 2 ^ 27 + bits_of v 20 5 * 2 ^ 20 ≡ v → word_l v rd rs1 ≡ Some w → (bit_and w 0xf9f0707f ≡ v) × (rd_of w ≡ rd) × (rs1_of w ≡ rs1)

@@ -21,9 +21,9 @@ fits_plain k (pos n) = nat_lt n (2 ^ k)
 fits_plain k (negsuc n) = false
 
 -- such a number
-abbrev pub plain : ℤ → ℕ
-plain (pos n) = n
-plain (negsuc n) = 0
+abbrev pub plain_number : ℤ → ℕ
+plain_number (pos n) = n
+plain_number (negsuc n) = 0
 
 abbrev pub is_register : ℕ → Bool
 is_register r = nat_lt r 32
@@ -72,13 +72,13 @@ word_s v rs1 rs2 imm =
 abbrev pub word_s6 : ℕ → ℕ → ℕ → ℤ → Option ℕ
 word_s6 v rd rs1 imm =
     if is_register rd && (is_register rs1 && (fits_plain 6 imm))
-    then Some (v + rd * 2 ^ 7 + rs1 * 2 ^ 15 + plain imm * 2 ^ 20) else None
+    then Some (v + rd * 2 ^ 7 + rs1 * 2 ^ 15 + plain_number imm * 2 ^ 20) else None
 
 -- 32-bit shifts by a fixed amount
 abbrev pub word_s5 : ℕ → ℕ → ℕ → ℤ → Option ℕ
 word_s5 v rd rs1 imm =
     if is_register rd && (is_register rs1 && (fits_plain 5 imm))
-    then Some (v + rd * 2 ^ 7 + rs1 * 2 ^ 15 + plain imm * 2 ^ 20) else None
+    then Some (v + rd * 2 ^ 7 + rs1 * 2 ^ 15 + plain_number imm * 2 ^ 20) else None
 
 -- format R: operations on registers
 abbrev pub word_r : ℕ → ℕ → ℕ → ℕ → Option ℕ
@@ -102,7 +102,7 @@ word_c v rd rs1 csr =
 abbrev pub word_ci : ℕ → ℕ → ℤ → ℕ → Option ℕ
 word_ci v rd imm csr =
     if is_register rd && (fits_plain 5 imm && (nat_lt csr (2 ^ 12)))
-    then Some (v + rd * 2 ^ 7 + plain imm * 2 ^ 15 + csr * 2 ^ 20) else None
+    then Some (v + rd * 2 ^ 7 + plain_number imm * 2 ^ 15 + csr * 2 ^ 20) else None
 
 -- load-reserved
 abbrev pub word_l : ℕ → ℕ → ℕ → Option ℕ

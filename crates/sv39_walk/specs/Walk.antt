@@ -95,12 +95,12 @@ walked_for ram csr mode access va =
     walked ram csr.satp (asked mode (is_set csr.sstatus SUM_BIT) (is_set csr.sstatus MXR_BIT) access va)
 
 -- the place that an address is translated to, if there is one
-abbrev pub place_of : Walked → Option ℕ
-place_of (At place) = Some place
-place_of PageFault = None
-place_of AccessFault = None
-place_of TableInText = None
+abbrev pub translated_place : Walked → Option ℕ
+translated_place (At place) = Some place
+translated_place PageFault = None
+translated_place AccessFault = None
+translated_place TableInText = None
 
 -- the place that an address leads to for a vCPU with these registers, in this mode
 unfoldable pub place_for : Ram → Csrs → Mode → Access → ℕ → Option ℕ
-place_for ram csr mode access va = place_of (walked_for ram csr mode access va)
+place_for ram csr mode access va = translated_place (walked_for ram csr mode access va)

@@ -11,11 +11,11 @@ use Rattle.std.proofs.lemmas.List.Sums.{take_while-cons}
 use Rattle.std.proofs.Math.Dec.{eqb-suc-zero}
 use Rattle.fc_numbers.specs.Names.{is_app_name}
 use Rattle.fc_numbers.specs.declared.name.TheConstants.{NAME_MOST}
-use Rattle.switch_hook.specs.Hook.{all_bytes, as_name, is_zero}
+use Rattle.switch_hook.specs.Hook.{all_bytes, as_name, is_zero_byte}
 
 -- what n loads read, from load k on, before the first zero byte
 abbrev pub until_zero : (ℕ → Option ℕ) → ℕ → ℕ → List (Option ℕ)
-until_zero f k n = take_while (λ load. not (is_zero load)) (map f (range_with_len k n))
+until_zero f k n = take_while (λ load. not (is_zero_byte load)) (map f (range_with_len k n))
 
 -- these bytes, and behind them those of the loads
 abbrev pub behind : List ℕ → List (Option ℕ) → Option (List ℕ)
@@ -26,8 +26,8 @@ pub record AreRead (f : ℕ → Option ℕ) (name : List ℕ) (k : ℕ) : Type 0
   pub bytes : all_bytes (until_zero f 0 NAME_MOST) ≡ behind name (until_zero f k (NAME_MOST - k))
   pub many : length name ≡ k
 
-until_more : (f : ℕ → Option ℕ) (k n : ℕ) → until_zero f k (suc n) ≡ cond (not (is_zero (f k))) (f k ∷ until_zero f (k + 1) n) []
-until_more f k n = take_while-cons (λ load. not (is_zero load)) (f k) (map f (range_with_len (k + 1) n))
+until_more : (f : ℕ → Option ℕ) (k n : ℕ) → until_zero f k (suc n) ≡ cond (not (is_zero_byte (f k))) (f k ∷ until_zero f (k + 1) n) []
+until_more f k n = take_while-cons (λ load. not (is_zero_byte load)) (f k) (map f (range_with_len (k + 1) n))
 
 map_map : (name : List ℕ) (byte : ℕ) (rest : Option (List ℕ)) →
     option_map (λ bytes. name ++ bytes) (option_map (λ bytes. byte ∷ bytes) rest) ≡ option_map (λ bytes. (name ++ byte ∷ []) ++ bytes) rest

@@ -26,9 +26,9 @@ abbrev pub bytes_at : Ram → Csrs → ℕ → List (Option ℕ)
 bytes_at ram csr at = map (λ k. byte_at ram csr (address_after at k)) (range_with_len 0 NAME_MOST)
 
 -- it is a byte that was read as zero
-abbrev pub is_zero : Option ℕ → Bool
-is_zero (Some byte) = nat_eq byte 0
-is_zero None = false
+abbrev pub is_zero_byte : Option ℕ → Bool
+is_zero_byte (Some byte) = nat_eq byte 0
+is_zero_byte None = false
 
 -- the bytes, where each of the loads read one
 abbrev pub all_bytes : List (Option ℕ) → Option (List ℕ)
@@ -44,7 +44,7 @@ as_name bytes = if is_app_name bytes then Some bytes else None
 -- they are the name of an app
 abbrev pub name_at_address : Ram → Csrs → ℕ → Option (List ℕ)
 name_at_address ram csr at =
-    option_and_then as_name (all_bytes (take_while (λ load. not (is_zero load)) (bytes_at ram csr at)))
+    option_and_then as_name (all_bytes (take_while (λ load. not (is_zero_byte load)) (bytes_at ram csr at)))
 
 -- the name of the app that the kernel switches to: a1 is the address of the next task, and the name stands name_at bytes on
 abbrev pub app_name_of : Ram → Csrs → ℕ → ℕ → Option (List ℕ)

@@ -13,13 +13,13 @@ use Rattle.trace_file.specs.declared.halt.Halt.TheVariants.{Short, Fault}
 use Rattle.trace_file.specs.declared.runs.Before.{Before}
 use Rattle.trace_file.specs.declared.state.State.{State}
 use Rattle.trace_file.specs.declared.trace.TheConstants.{MARK}
-use Rattle.trace_file.specs.Form.{Form, ◌>>=◌, number, both, unless, checked, counted, short_is}
+use Rattle.trace_file.specs.Form.{Form, ◌>>=◌, number, both, unless, checked, counted_items, short_is}
 use Rattle.trace_file.specs.Runs.{run, run_fault, run_form, runs_form, after_run, at_first, runs_of, schedule_of}
 use Rattle.trace_file.specs.Entries.{entry_fault, head_of, head_parts, head_form, entry_of, entry_parts, entry_form, after_entry, entries_form}
 use Rattle.trace_file.specs.Values.{values_of, state_of}
 use Rattle.trace_file.specs.States.{mode_fault, value_form, values_form, state_form, states_form}
-use Rattle.trace_file.specs.Trace.{Told, vcpus_fault, vcpus_form, end_number, end_of, end_fault, end_form, digest_form, pages_fault, pages_form, told_of, parts_of, trace_form, text_of, ended, trace_of}
-use Rattle.trace_file.specs.Lawful.{IsLawful}
+use Rattle.trace_file.specs.Trace.{Told, vcpus_fault, vcpus_form, end_number, end_of, end_fault, end_form, digest_form, pages_fault, pages_form, told_of, parts_of, trace_form, text_of_trace, result_at_end, trace_of}
+use Rattle.trace_file.specs.Lawful.{IsLawfulTrace}
 use Rattle.trace_file.proofs.Cuts.{CutsShort, short_of, ends_in, raw_cut, both_cut, checked_cut, seen_cut, items_cut, c8, c16, c32, c64}
 use Rattle.trace_file.proofs.IsForm.{IsForm}
 use Rattle.trace_file.proofs.Forms.{ItemsFit, CountedFit}
@@ -31,7 +31,7 @@ use Rattle.trace_file.proofs.TraceLaws.{NumberFit, CountFit, count_is, PagesFit,
 
 module _ {A S : Type 0} (c : ℕ → Type 0) (count : Form ℕ) (counts : IsForm c count) (short : CutsShort c count) (p : ℕ → S → A → Type 0) (item : ℕ → S → Form A) (next : S → A → S) (each : (k : ℕ) (s : S) → IsForm (p k s) (item k s))
     (cuts : (k : ℕ) (s : S) → CutsShort (p k s) (item k s)) (s : S) where
-  counted_cut : CutsShort (CountedFit c count counts p item next each s) (counted count item next s)
+  counted_cut : CutsShort (CountedFit c count counts p item next each s) (counted_items count item next s)
   counted_cut = seen_cut (λ x. x.1) (λ xs. (length xs, xs)) (both_cut {q = λ n xs. ItemsFit p item next each n 0 s xs} counts short (λ n. items_cut p item next each cuts n 0 s))
 
 run_cut : (vcpus k : ℕ) (before : Before) → CutsShort (RunFit vcpus k before) (run_form vcpus k before)
@@ -123,18 +123,18 @@ refused_by fault = Err fault
 abbrev pub shorter_fault : List ℕ → TraceFault
 shorter_fault front = cond (ltb (length front) 9) NotTrace (Truncated (length front))
 
-pub shorter_refused : (t : Told) (front back : List ℕ) → IsLawful t → text_of t ≡ front ++ back → 1 ≤ length back → trace_of front ≡ Err (shorter_fault front)
+pub shorter_refused : (t : Told) (front back : List ℕ) → IsLawfulTrace t → text_of_trace t ≡ front ++ back → 1 ≤ length back → trace_of front ≡ Err (shorter_fault front)
 unfolding trace_form
 shorter_refused t front back h e some =
     let fits = lawful_trace t h in
     elim (ends_in (vcpus_form.spell t.vcpus) ((rest_form t.vcpus).spell (parts_of t).1) front back e) [
       | inl k ↦
           let few : length front ≤ 8 = omega (arith, nine t.vcpus, ap length k.1, length-append front k.0, k.2) in
-          ap (λ r. ended front (went_on r)) (not_begun front few)
+          ap (λ r. result_at_end front (went_on r)) (not_begun front few)
           ∙ ap (λ (b : Bool). refused_by (cond b NotTrace (Truncated (length front)))) (sym (lt-ltb (length front) 9 (omega arith)))
       | inr k ↦
-          ap (λ bytes. ended front (went_on (vcpus_form.read bytes))) k.1
-          ∙ ap (λ r. ended front (went_on r)) (vcpus_is.again t.vcpus k.0 fits.0)
-          ∙ ap (λ r. ended front ((r >>= λ b. joined t.vcpus b) >>= λ a. Ok (told_of a.0, a.1))) ((rest_cut t.vcpus).cut (parts_of t).1 k.0 back fits.1 k.2 some)
+          ap (λ bytes. result_at_end front (went_on (vcpus_form.read bytes))) k.1
+          ∙ ap (λ r. result_at_end front (went_on r)) (vcpus_is.again t.vcpus k.0 fits.0)
+          ∙ ap (λ r. result_at_end front ((r >>= λ b. joined t.vcpus b) >>= λ a. Ok (told_of a.0, a.1))) ((rest_cut t.vcpus).cut (parts_of t).1 k.0 back fits.1 k.2 some)
           ∙ ap (λ (b : Bool). refused_by (cond b NotTrace (Truncated (length front)))) (sym (le-ltb (length front) 9 (omega (arith, nine t.vcpus, ap length k.1, length-append (vcpus_form.spell t.vcpus) k.0))))
     ]

@@ -7,7 +7,7 @@ use Rattle.std.proofs.lemmas.Bool.{eqb-true, eq-eqb, and_parts, and_from}
 use Rattle.trace_file.specs.declared.fault.TraceFault.{TraceFault}
 use Rattle.trace_file.specs.declared.halt.Halt.{Halt}
 use Rattle.trace_file.specs.declared.halt.Halt.TheVariants.{Memory, Short, Fault}
-use Rattle.trace_file.specs.Form.{Form, ◌>>=◌, both, unless, checked, seen, behind, short_is, whole, spell_items, read_items, items, times, counted}
+use Rattle.trace_file.specs.Form.{Form, ◌>>=◌, both, unless, checked, seen, behind, short_is, whole, spell_items, read_items, items, repeated_form, counted_items}
 use Rattle.trace_file.proofs.IsForm.{IsBytes, IsForm}
 use Rattle.trace_file.proofs.Numbers.{IsBytes-drop}
 
@@ -180,14 +180,14 @@ module _ {A : Type 0} (p : A → Type 0) (f : Form A) (is : IsForm p f) where
   abbrev pub TimesFit : ℕ → List A → Type 0
   TimesFit n xs = ItemsFit {S = Unit {0}} (λ _ _. p) (λ _ _. f) (λ _ _. tt) (λ _ _. is) n 0 tt xs
 
-  pub times_form : (n : ℕ) → IsForm (TimesFit n) (times n f)
+  pub times_form : (n : ℕ) → IsForm (TimesFit n) (repeated_form n f)
   times_form n = items_form {S = Unit {0}} (λ _ _. p) (λ _ _. f) (λ _ _. tt) (λ _ _. is) n 0 tt
 
 module _ {A S : Type 0} (c : ℕ → Type 0) (count : Form ℕ) (counts : IsForm c count) (p : ℕ → S → A → Type 0) (item : ℕ → S → Form A) (next : S → A → S) (each : (k : ℕ) (s : S) → IsForm (p k s) (item k s)) (s : S) where
   abbrev pub CountedFit : List A → Type 0
   CountedFit xs = c (length xs) × ItemsFit p item next each (length xs) 0 s xs
 
-  pub counted_form : IsForm CountedFit (counted count item next s)
+  pub counted_form : IsForm CountedFit (counted_items count item next s)
   counted_form = seen_form (BothFit c (λ n xs. ItemsFit p item next each n 0 s xs) count (λ n. items item next n 0 s) counts (λ n. items_form p item next each n 0 s)) (λ x. x.1) (λ xs. (length xs, xs))
       (both count (λ n. items item next n 0 s)) (both_form c (λ n xs. ItemsFit p item next each n 0 s xs) count (λ n. items item next n 0 s) counts (λ n. items_form p item next each n 0 s))
       (λ xs. refl) (λ x h. ap (λ n. (n, x.1)) h.1.0)

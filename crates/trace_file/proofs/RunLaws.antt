@@ -7,7 +7,7 @@ use Rattle.std.proofs.lemmas.List.{replicate-append-replicate, length-append, le
 use Rattle.trace_file.specs.declared.fault.TraceFault.TheVariants.{BadRun, TooLarge}
 use Rattle.trace_file.specs.declared.runs.Run.{Run}
 use Rattle.trace_file.specs.declared.runs.Before.{Before}
-use Rattle.trace_file.specs.Form.{number, both, seen, counted}
+use Rattle.trace_file.specs.Form.{number, both, seen, counted_items}
 use Rattle.trace_file.proofs.IsForm.{IsForm}
 use Rattle.trace_file.specs.Runs.{run, runs_from, runs_of, schedule_of, at_first, after_run, is_again, run_fault, run_form, runs_form}
 use Rattle.trace_file.proofs.Forms.{BothFit, both_form, checked_form, seen_form, AllFit, CountedFit, counted_form}
@@ -167,7 +167,7 @@ module _ (vcpus : ℕ) where
   pub runs_is : IsForm RunsFit (runs_form vcpus)
   unfolding runs_form
   runs_is =
-      seen_form (CountedFit (λ n. n < 2 ^ 32) (number w32) (number_form w32 (2 ^ 32) wide32) (RunFit vcpus) (run_form vcpus) after_run (run_is vcpus) at_first) schedule_of runs_of (counted (number w32) (run_form vcpus) after_run at_first)
+      seen_form (CountedFit (λ n. n < 2 ^ 32) (number w32) (number_form w32 (2 ^ 32) wide32) (RunFit vcpus) (run_form vcpus) after_run (run_is vcpus) at_first) schedule_of runs_of (counted_items (number w32) (run_form vcpus) after_run at_first)
       (counted_form (λ n. n < 2 ^ 32) (number w32) (number_form w32 (2 ^ 32) wide32) (RunFit vcpus) (run_form vcpus) after_run (run_is vcpus) at_first)
       schedule-runs (λ rs h. runs-schedule 0 at_first rs h.1.1)
 

@@ -9,12 +9,12 @@ use Rattle.chain_log.specs.declared.entry.LogEntry.{LogEntry}
 use Rattle.trace_file.specs.declared.runs.Run.{Run}
 use Rattle.trace_file.specs.declared.state.State.{State}
 use Rattle.trace_file.specs.declared.trace.TheConstants.{MARK}
-use Rattle.trace_file.specs.Form.{Form, number, times, spell_items}
+use Rattle.trace_file.specs.Form.{Form, number, repeated_form, spell_items}
 use Rattle.trace_file.specs.Runs.{run_form, runs_form, run_text, runs_of, after_run, at_first}
 use Rattle.trace_file.specs.Entries.{head_form, entry_form, entries_form, entry_text, after_entry}
 use Rattle.trace_file.specs.States.{value_form, values_form, state_form, states_form, state_text}
 use Rattle.trace_file.specs.Values.{values_of}
-use Rattle.trace_file.specs.Trace.{Told, vcpus_form, end_form, end_number, digest_form, pages_form, trace_form, text_of}
+use Rattle.trace_file.specs.Trace.{Told, vcpus_form, end_form, end_number, digest_form, pages_form, trace_form, text_of_trace}
 use Rattle.trace_file.proofs.StateLaws.{mode_of_state}
 
 pub spelled : {A S : Type 0} (item : ℕ → S → Form A) (next : S → A → S) (one : A → List ℕ) → ((k : ℕ) (s : S) (a : A) → (item k s).spell a ≡ one a) → (k : ℕ) (s : S) (xs : List A) → spell_items item next k s xs ≡ flat_map one xs
@@ -30,7 +30,7 @@ entry_same : (vcpus steps k before : ℕ) (e : LogEntry) → (entry_form vcpus s
 unfolding entry_form head_form
 entry_same vcpus steps k before e = refl
 
-pub places_text : (n : ℕ) (places : List ℕ) → (times n (number w64)).spell places ≡ flat_map (λ place. to_le_bytes w64 place) places
+pub places_text : (n : ℕ) (places : List ℕ) → (repeated_form n (number w64)).spell places ≡ flat_map (λ place. to_le_bytes w64 place) places
 places_text n places = spelled {S = Unit {0}} (λ _ _. number w64) (λ _ _. tt) (λ place. to_le_bytes w64 place) (λ k s a. refl) 0 tt places
 
 pub entry_pieces : (e : LogEntry) → entry_text e ≡
@@ -62,7 +62,7 @@ unfolding spell_items
 value-end out values whole k le h = sym (append-nil out) ∙ sym (ap (λ vs. out ++ spell_items value_form (λ s _. s) k tt vs) (drop_all k values le)) ∙ h
 
 -- the text of a trace, piece by piece
-pub text_pieces : (t : Told) → text_of t ≡
+pub text_pieces : (t : Told) → text_of_trace t ≡
     (MARK ++ to_le_bytes w8 t.vcpus) ++ ((to_le_bytes w32 (length (runs_of t.schedule)) ++ flat_map run_text (runs_of t.schedule)) ++ ((to_le_bytes w32 (length t.entries) ++ flat_map entry_text t.entries)
     ++ (to_le_bytes w8 (end_number t.end) ++ (flat_map state_text t.states ++ (t.memory ++ (to_le_bytes w8 (length t.pages) ++ flat_map (λ digest. digest) t.pages))))))
 unfolding trace_form vcpus_form runs_form entries_form end_form states_form pages_form
@@ -97,7 +97,7 @@ join6 a b c d e f g = simp append_assoc
 pub trace_joined : (t0 : Told) (p q r s t u v w : List ℕ)
     → p ≡ MARK ++ to_le_bytes w8 t0.vcpus → q ≡ p ++ (to_le_bytes w32 (length (runs_of t0.schedule)) ++ flat_map run_text (runs_of t0.schedule)) → r ≡ q ++ (to_le_bytes w32 (length t0.entries) ++ flat_map entry_text t0.entries)
     → s ≡ r ++ to_le_bytes w8 (end_number t0.end) → t ≡ s ++ flat_map state_text t0.states → u ≡ t ++ t0.memory → v ≡ u ++ to_le_bytes w8 (length t0.pages) → w ≡ v ++ flat_map (λ digest. digest) t0.pages
-    → w ≡ text_of t0
+    → w ≡ text_of_trace t0
 trace_joined t0 p q r s t u v w e1 e2 e3 e4 e5 e6 e7 e8 =
     let pages : List ℕ = flat_map (λ digest. digest) t0.pages in
     e8 ∙ ap (λ (x : List ℕ). x ++ pages) e7 ∙ append_assoc u (to_le_bytes w8 (length t0.pages)) pages

@@ -17,8 +17,8 @@ use Rattle.trace_file.specs.declared.trace.TheConstants.{MARK}
 use Rattle.trace_file.specs.Gives.{Answers}
 use Rattle.trace_file.specs.Form.{number, checked, behind}
 use Rattle.trace_file.proofs.IsForm.{IsBytes, IsForm}
-use Rattle.trace_file.specs.Trace.{Told, told, vcpus_fault, vcpus_form, end_number, end_of, end_fault, end_form, digest_form, pages_fault, pages_form, told_of, parts_of, trace_form, text_of, ended, trace_of}
-use Rattle.trace_file.specs.Lawful.{IsDigest, IsLawful}
+use Rattle.trace_file.specs.Trace.{Told, told_of_trace, vcpus_fault, vcpus_form, end_number, end_of, end_fault, end_form, digest_form, pages_fault, pages_form, told_of, parts_of, trace_form, text_of_trace, result_at_end, trace_of}
+use Rattle.trace_file.specs.Lawful.{IsDigest, IsLawfulTrace}
 use Rattle.trace_file.proofs.Forms.{both_is, checked_is, seen_is, behind_form, whole_form, CountedFit, counted_form, all_from_each, each_from_all, done, ok_is}
 use Rattle.trace_file.proofs.Numbers.{n8, RawFit, raw_form}
 use Rattle.trace_file.proofs.NoFault.{none_if, none_from}
@@ -113,7 +113,7 @@ trace_is =
     (both_is vcpus_is (λ vcpus. both_is (runs_is vcpus) (λ schedule. both_is (entries_is vcpus (length schedule)) (λ _. both_is end_is (λ _. both_is (states_is vcpus) (λ _. both_is (raw_form 32) (λ _. pages_is)))))))
     (λ t. refl) (λ x h. refl)
 
-pub trace_lawful : (t : Told) → TraceFit t → IsLawful t
+pub trace_lawful : (t : Told) → TraceFit t → IsLawfulTrace t
 trace_lawful t h =
     let v = vcpus_lawful t.vcpus h.0 in
     let r = runs_lawful t.vcpus t.schedule h.1.0 in
@@ -134,7 +134,7 @@ trace_lawful t h =
       pages = p.2;
     }
 
-pub lawful_trace : (t : Told) → IsLawful t → TraceFit t
+pub lawful_trace : (t : Told) → IsLawfulTrace t → TraceFit t
 lawful_trace t h = (
   lawful_vcpus t.vcpus h.some h.most,
   (
@@ -148,18 +148,18 @@ lawful_trace t h = (
 
 -- ---- the laws
 
-read_again : (t : Told) (rest : List ℕ) → IsLawful t → trace_form.read (text_of t ++ rest) ≡ Ok (t, rest)
+read_again : (t : Told) (rest : List ℕ) → IsLawfulTrace t → trace_form.read (text_of_trace t ++ rest) ≡ Ok (t, rest)
 read_again t rest h = trace_is.again t rest (lawful_trace t h)
 
-read_text : (t : Told) → IsLawful t → trace_form.read (text_of t) ≡ Ok (t, [])
-read_text t h = ap (λ bytes. trace_form.read bytes) (sym (append-nil (text_of t))) ∙ read_again t [] h
+read_text : (t : Told) → IsLawfulTrace t → trace_form.read (text_of_trace t) ≡ Ok (t, [])
+read_text t h = ap (λ bytes. trace_form.read bytes) (sym (append-nil (text_of_trace t))) ∙ read_again t [] h
 
 abbrev done_trace : Told → Result Told TraceFault
 done_trace t = Ok t
 
 -- what was written is read
-pub text_again : (t : Told) → IsLawful t → trace_of (text_of t) ≡ Ok t
-text_again t h = ap (λ r. ended (text_of t) r) (read_text t h)
+pub text_again : (t : Told) → IsLawfulTrace t → trace_of (text_of_trace t) ≡ Ok t
+text_again t h = ap (λ r. result_at_end (text_of_trace t) r) (read_text t h)
 
 from_test : (b : Bool) (x : Told × List ℕ) (t : Told) → eqb (length x.1) 0 ≡ b → cond b (done_trace x.0) (Err Trailing) ≡ Ok t → done x ≡ Ok (t, [])
 from_test true x t e h =
@@ -168,25 +168,25 @@ from_test true x t e h =
     ap (λ (r : List ℕ). done (x.0, r)) nothing ∙ ap (λ (y : Told). done (y, [])) same
 from_test false x t e h = absurd cc
 
-ended_ok : (bytes : List ℕ) (r : Result (Told × List ℕ) Halt) (t : Told) → ended bytes r ≡ Ok t → r ≡ Ok (t, [])
+ended_ok : (bytes : List ℕ) (r : Result (Told × List ℕ) Halt) (t : Told) → result_at_end bytes r ≡ Ok t → r ≡ Ok (t, [])
 ended_ok bytes (Ok x) t e = from_test (eqb (length x.1) 0) x t refl e
 ended_ok bytes (Err Memory) t e = absurd cc
 ended_ok bytes (Err Short) t e = absurd cc
 ended_ok bytes (Err (Fault f)) t e = absurd cc
 
 -- what is read is lawful, and its text
-pub text_taken : (bytes : List ℕ) (t : Told) → IsBytes bytes → trace_of bytes ≡ Ok t → IsLawful t × (bytes ≡ text_of t)
+pub text_taken : (bytes : List ℕ) (t : Told) → IsBytes bytes → trace_of bytes ≡ Ok t → IsLawfulTrace t × (bytes ≡ text_of_trace t)
 text_taken bytes t low e =
     let r = ended_ok bytes (trace_form.read bytes) t e in
-    (trace_lawful t (trace_is.fit bytes t [] low r).0, trace_is.spelt bytes t [] low r ∙ append-nil (text_of t))
+    (trace_lawful t (trace_is.fit bytes t [] low r).0, trace_is.spelt bytes t [] low r ∙ append-nil (text_of_trace t))
 
 -- no text begins another
-pub text_apart : (a b : Told) (rest : List ℕ) → IsLawful a → IsLawful b → text_of b ≡ text_of a ++ rest → (rest ≡ []) × (a ≡ b)
+pub text_apart : (a b : Told) (rest : List ℕ) → IsLawfulTrace a → IsLawfulTrace b → text_of_trace b ≡ text_of_trace a ++ rest → (rest ≡ []) × (a ≡ b)
 text_apart a b rest ha hb e =
     let both : done (b, []) ≡ done (a, rest) = sym (read_text b hb) ∙ ap (λ bytes. trace_form.read bytes) e ∙ read_again a rest ha in
     let same = ok_is (b, []) (a, rest) both in
     (sym (ap (λ (x : Told × List ℕ). x.1) same), sym (ap (λ (x : Told × List ℕ). x.0) same))
 
-pub is_found : (bytes : List ℕ) (r : Result Trace TraceFault) → IsBytes bytes → Answers told r (trace_of bytes) → IfOk r (λ t. IsLawful (told t) × (bytes ≡ text_of (told t)))
-is_found bytes (Ok t) low given = text_taken bytes (told t) low given
+pub is_found : (bytes : List ℕ) (r : Result Trace TraceFault) → IsBytes bytes → Answers told_of_trace r (trace_of bytes) → IfOk r (λ t. IsLawfulTrace (told_of_trace t) × (bytes ≡ text_of_trace (told_of_trace t)))
+is_found bytes (Ok t) low given = text_taken bytes (told_of_trace t) low given
 is_found bytes (Err e) low given = tt

@@ -7,7 +7,7 @@ use Rattle.trace_file.specs.declared.fault.TraceFault.{TraceFault}
 use Rattle.trace_file.specs.declared.fault.TraceFault.TheVariants.{BadEntry}
 use Rattle.trace_file.specs.declared.entries.Head.{Head}
 use Rattle.trace_file.specs.declared.trace.TheConstants.{VIEWS_MOST, GROUPS_MOST}
-use Rattle.trace_file.specs.Form.{Form, number, both, seen, checked, times, counted}
+use Rattle.trace_file.specs.Form.{Form, number, both, seen, checked, repeated_form, counted_items}
 
 -- entry k of a trace of so many vCPUs and steps, behind one of view `before`; entries are of views from 1 on, in order
 abbrev pub entry_fault : ℕ → ℕ → ℕ → ℕ → Head → Option TraceFault
@@ -44,13 +44,13 @@ entry_parts e = (head_at e, e.chain.items)
 
 -- the head, and then as many places as it counts
 unfoldable pub entry_form : ℕ → ℕ → ℕ → ℕ → Form LogEntry
-entry_form vcpus steps k before = seen entry_of entry_parts (both (head_form vcpus steps k before) (λ h. times h.places (number w64)))
+entry_form vcpus steps k before = seen entry_of entry_parts (both (head_form vcpus steps k before) (λ h. repeated_form h.places (number w64)))
 
 abbrev pub after_entry : ℕ → LogEntry → ℕ
 after_entry before e = e.view
 
 unfoldable pub entries_form : ℕ → ℕ → Form (List LogEntry)
-entries_form vcpus steps = counted (number w32) (entry_form vcpus steps) after_entry 0
+entries_form vcpus steps = counted_items (number w32) (entry_form vcpus steps) after_entry 0
 
 -- the text of an entry hangs on nothing before it
 abbrev pub entry_text : LogEntry → List ℕ

@@ -85,9 +85,9 @@ abbrev pub items : {A S : Type 0} → (ℕ → S → Form A) → (S → A → S)
 items item next n k s = record { spell = λ xs. spell_items item next k s xs; read = λ bytes. read_items item next n k s bytes }
 
 -- n times the same
-abbrev pub times : {A : Type 0} → ℕ → Form A → Form (List A)
-times n f = items {S = Unit {0}} (λ _ _. f) (λ _ _. tt) n 0 tt
+abbrev pub repeated_form : {A : Type 0} → ℕ → Form A → Form (List A)
+repeated_form n f = items {S = Unit {0}} (λ _ _. f) (λ _ _. tt) n 0 tt
 
 -- how many, and then so many parts
-abbrev pub counted : {A S : Type 0} → Form ℕ → (ℕ → S → Form A) → (S → A → S) → S → Form (List A)
-counted count item next s = seen (λ x. x.1) (λ xs. (length xs, xs)) (both count (λ n. items item next n 0 s))
+abbrev pub counted_items : {A S : Type 0} → Form ℕ → (ℕ → S → Form A) → (S → A → S) → S → Form (List A)
+counted_items count item next s = seen (λ x. x.1) (λ xs. (length xs, xs)) (both count (λ n. items item next n 0 s))

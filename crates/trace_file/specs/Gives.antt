@@ -15,11 +15,11 @@ abbrev pub Gives : {X Y : Type 0} → (X → Y) → Result X Halt → Result Y H
 Gives view (Ok x) read = read ≡ Ok (view x)
 Gives view (Err why) read = Halts why read
 
-abbrev pub Refuses : {Y : Type 0} → TraceFault → Result Y TraceFault → Type 0
-Refuses NoMemory read = Unit {0}
-Refuses fault read = read ≡ Err fault
+abbrev pub IsSameRefusal : {Y : Type 0} → TraceFault → Result Y TraceFault → Type 0
+IsSameRefusal NoMemory read = Unit {0}
+IsSameRefusal fault read = read ≡ Err fault
 
 -- for a whole file
 abbrev pub Answers : {X Y : Type 0} → (X → Y) → Result X TraceFault → Result Y TraceFault → Type 0
 Answers view (Ok x) read = read ≡ Ok (view x)
-Answers view (Err fault) read = Refuses fault read
+Answers view (Err fault) read = IsSameRefusal fault read

@@ -30,7 +30,7 @@ AreEntries vcpus steps before (e ∷ es) = IsEntry vcpus steps before e × AreEn
 abbrev pub IsState : State → Type 0
 IsState s = AllByRecursion (λ n. n < 2 ^ 64) (values_of s)
 
-pub record IsLawful (t : Told) : Type 0 where
+pub record IsLawfulTrace (t : Told) : Type 0 where
   pub some : 1 ≤ t.vcpus
   pub most : t.vcpus ≤ VCPUS_MOST
   pub steps : length t.schedule ≤ STEPS_MOST

@@ -6,7 +6,7 @@ use Rattle.trace_file.specs.declared.fault.TraceFault.TheVariants.{BadRun, TooLa
 use Rattle.trace_file.specs.declared.runs.Before.{Before}
 use Rattle.trace_file.specs.declared.runs.Run.{Run}
 use Rattle.trace_file.specs.declared.trace.TheConstants.{STEPS_MOST}
-use Rattle.trace_file.specs.Form.{Form, number, both, seen, checked, counted}
+use Rattle.trace_file.specs.Form.{Form, number, both, seen, checked, counted_items}
 
 abbrev pub run : ℕ → ℕ → Run
 run vcpu steps = record { vcpu = vcpu; steps = steps }
@@ -47,7 +47,7 @@ unfoldable pub run_form : ℕ → ℕ → Before → Form Run
 run_form vcpus k before = checked (run_fault vcpus k before) (seen (λ x. run x.0 x.1) (λ r. (r.vcpu, r.steps)) (both (number w8) (λ _. number w32)))
 
 unfoldable pub runs_form : ℕ → Form (List ℕ)
-runs_form vcpus = seen schedule_of runs_of (counted (number w32) (run_form vcpus) after_run at_first)
+runs_form vcpus = seen schedule_of runs_of (counted_items (number w32) (run_form vcpus) after_run at_first)
 
 -- the text of a run hangs on nothing before it
 abbrev pub run_text : Run → List ℕ

@@ -13,7 +13,7 @@ use Rattle.trace_file.specs.declared.halt.Halt.TheVariants.{Memory, Short, Fault
 use Rattle.trace_file.specs.declared.state.State.{State}
 use Rattle.trace_file.specs.declared.trace.Trace.{Trace}
 use Rattle.trace_file.specs.declared.trace.TheConstants.{MARK, VCPUS_MOST, VIEWS_MOST, DIGEST}
-use Rattle.trace_file.specs.Form.{Form, Reading, number, raw, both, seen, checked, behind, whole, counted}
+use Rattle.trace_file.specs.Form.{Form, Reading, number, raw, both, seen, checked, behind, whole, counted_items}
 use Rattle.trace_file.specs.Runs.{runs_form}
 use Rattle.trace_file.specs.Entries.{entries_form}
 use Rattle.trace_file.specs.States.{states_form}
@@ -28,8 +28,8 @@ pub record Told : Type 0 where
   pub memory : List ℕ
   pub pages : List (List ℕ)
 
-abbrev pub told : Trace → Told
-told t = record {
+abbrev pub told_of_trace : Trace → Told
+told_of_trace t = record {
   vcpus = t.vcpus;
   schedule = t.schedule.items;
   entries = t.entries.items;
@@ -75,7 +75,7 @@ abbrev pub pages_fault : ℕ → Option TraceFault
 pages_fault n = if (n == 0) || nat_lt VIEWS_MOST n then Some BadTail else None
 
 unfoldable pub pages_form : Form (List (List ℕ))
-pages_form = counted {S = Unit {0}} (checked pages_fault (number w8)) (λ _ _. digest_form) (λ s _. s) tt
+pages_form = counted_items {S = Unit {0}} (checked pages_fault (number w8)) (λ _ _. digest_form) (λ s _. s) tt
 
 abbrev pub Parts : Type 0
 Parts = ℕ × (List ℕ × (List LogEntry × (End × (List State × (List ℕ × List (List ℕ))))))
@@ -106,15 +106,15 @@ trace_form = seen told_of parts_of (
     pages_form)))))))
 
 -- the one text of a trace
-abbrev pub text_of : Told → List ℕ
-text_of t = trace_form.spell t
+abbrev pub text_of_trace : Told → List ℕ
+text_of_trace t = trace_form.spell t
 
-abbrev pub ended : List ℕ → Reading Told → Result Told TraceFault
-ended bytes (Ok x) = if length x.1 == 0 then Ok x.0 else Err Trailing
-ended bytes (Err Memory) = Err NoMemory
-ended bytes (Err Short) = Err (Truncated (length bytes))
-ended bytes (Err (Fault fault)) = Err fault
+abbrev pub result_at_end : List ℕ → Reading Told → Result Told TraceFault
+result_at_end bytes (Ok x) = if length x.1 == 0 then Ok x.0 else Err Trailing
+result_at_end bytes (Err Memory) = Err NoMemory
+result_at_end bytes (Err Short) = Err (Truncated (length bytes))
+result_at_end bytes (Err (Fault fault)) = Err fault
 
 -- the trace whose text the bytes are, all of them, or the first fault that they meet
 abbrev pub trace_of : List ℕ → Result Told TraceFault
-trace_of bytes = ended bytes (trace_form.read bytes)
+trace_of bytes = result_at_end bytes (trace_form.read bytes)

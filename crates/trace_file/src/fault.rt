@@ -53,9 +53,9 @@ impl<T: Drop> From<AllocFailed<T>> for TraceFault {
 
 impl Display for TraceFault {
     ghost use Rattle.std.specs.Prelude.{Some};
-    ghost use Rattle.trace_file.specs.Faults.{shown_fault};
+    ghost use Rattle.trace_file.specs.Faults.{shown_trace_fault};
 
-    ghost output = { λ fault. Some (shown_fault fault) };
+    ghost output = { λ fault. Some (shown_trace_fault fault) };
 
     fn fmt<W: Write>(&self, f: &mut Formatter<W>) -> fmt::Result {
         match self {

@@ -6,12 +6,12 @@
 ghost use Rattle.std.specs.Prelude.{◌≡◌, ◌≤◌, ◌<◌, ◌+◌, ◌^◌, ◌++◌, replicate, length, Ok, IfOk, OnOk, OnErr};
 ghost use Rattle.std.specs.Int.{w8, w32, w64};
 ghost use Rattle.trace_file.specs.Entries.{entry_form, head_form, entries_form, after_entry};
-ghost use Rattle.trace_file.specs.Form.{number, items, seen, times};
+ghost use Rattle.trace_file.specs.Form.{number, items, seen, repeated_form};
 ghost use Rattle.trace_file.specs.Gives.{Gives, Answers};
 ghost use Rattle.trace_file.specs.Runs.{run_form, runs_form, after_run, at_first, runs_of, schedule_of};
 ghost use Rattle.trace_file.specs.States.{value_form, values_form, state_form, states_form};
-ghost use Rattle.trace_file.specs.Lawful.{IsLawful};
-ghost use Rattle.trace_file.specs.Trace.{Told, vcpus_form, end_form, digest_form, pages_form, trace_form, told, text_of, trace_of};
+ghost use Rattle.trace_file.specs.Lawful.{IsLawfulTrace};
+ghost use Rattle.trace_file.specs.Trace.{Told, vcpus_form, end_form, digest_form, pages_form, trace_form, told_of_trace, text_of_trace, trace_of};
 ghost use Rattle.trace_file.specs.Values.{state_of};
 
 use crate::entries::Head;
@@ -111,7 +111,7 @@ fn head_at(
 /// So many places of a chain.
 fn chain_at(places: u8, bytes: &[u8]) -> Result<(Chain, &[u8]), Halt>
     requires { places ≤ CHAIN_MOST }
-    ensures { Gives (λ x. (x.0.items, x.1.now)) result ((times places (number w64)).read bytes.now) }
+    ensures { Gives (λ x. (x.0.items, x.1.now)) result ((repeated_form places (number w64)).read bytes.now) }
 {
     let mut chain = Chain::new();
     let mut rest = bytes;
@@ -311,7 +311,7 @@ fn states_at(alloc: Global, vcpus: u8, bytes: &[u8]) -> Result<(Vec<State>, &[u8
 
 /// So many digests.
 fn some_pages(alloc: Global, count: u8, bytes: &[u8]) -> Result<(Vec<[u8; DIGEST]>, &[u8]), Halt>
-    ensures { Gives (λ x. (x.0.items, x.1.now)) result ((times count digest_form).read bytes.now) }
+    ensures { Gives (λ x. (x.0.items, x.1.now)) result ((repeated_form count digest_form).read bytes.now) }
 {
     let mut pages = Vec::new(alloc);
     let mut rest = bytes;
@@ -338,7 +338,7 @@ fn pages_at(alloc: Global, bytes: &[u8]) -> Result<(Vec<[u8; DIGEST]>, &[u8]), H
 /// A trace at the front of bytes.
 #[tactic(auto, unfolding(crate::specs::Trace::trace_form))]
 fn trace_at(alloc: Global, bytes: &[u8]) -> Result<(Trace, &[u8]), Halt>
-    ensures { Gives (λ x. (told x.0, x.1.now)) result (trace_form.read bytes.now) }
+    ensures { Gives (λ x. (told_of_trace x.0, x.1.now)) result (trace_form.read bytes.now) }
 {
     let (vcpus, rest) = vcpus_at(bytes)?;
     let (schedule, rest) = match runs_at(alloc, vcpus, rest) {
@@ -369,7 +369,7 @@ fn trace_at(alloc: Global, bytes: &[u8]) -> Result<(Trace, &[u8]), Halt>
 
 /// The trace whose text the bytes are, all of them, or the first fault.
 fn whole_trace(alloc: Global, bytes: &[u8]) -> Result<Trace, TraceFault>
-    ensures { Answers told result (trace_of bytes.now) }
+    ensures { Answers told_of_trace result (trace_of bytes.now) }
 {
     match trace_at(alloc, bytes) {
         Ok((t, rest)) => {
@@ -387,11 +387,11 @@ fn whole_trace(alloc: Global, bytes: &[u8]) -> Result<Trace, TraceFault>
 /// The trace whose text the bytes are, all of them, or the first fault that they meet in reading order.
 pub fn read_trace(alloc: Global, bytes: &[u8]) -> Result<Trace, TraceFault>
     // What is read is lawful, and the bytes are its text.
-    ensures found { IfOk result (λ t. IsLawful (told t) × (bytes.now ≡ text_of (told t))) }
+    ensures found { IfOk result (λ t. IsLawfulTrace (told_of_trace t) × (bytes.now ≡ text_of_trace (told_of_trace t))) }
     // The text of a lawful trace is read, unless memory runs out.
-    ensures only { (t : Told) → IsLawful t → bytes.now ≡ text_of t → Answers told result (Ok t) }
+    ensures only { (t : Told) → IsLawfulTrace t → bytes.now ≡ text_of_trace t → Answers told_of_trace result (Ok t) }
     // Which fault it is.
-    ensures exact { Answers told result (trace_of bytes.now) }
+    ensures exact { Answers told_of_trace result (trace_of bytes.now) }
 {
     whole_trace(alloc, bytes)
 }

@@ -6,8 +6,8 @@ ghost use Rattle.std.specs.Int.{w8, w16, w32, w64, to_le_bytes};
 ghost use Rattle.trace_file.specs.Runs.{run_text, runs_from, runs_of};
 ghost use Rattle.trace_file.specs.Entries.{entry_text};
 ghost use Rattle.trace_file.specs.States.{state_text, value_form, values_form};
-ghost use Rattle.trace_file.specs.Lawful.{IsLawful};
-ghost use Rattle.trace_file.specs.Trace.{end_number, told, text_of};
+ghost use Rattle.trace_file.specs.Lawful.{IsLawfulTrace};
+ghost use Rattle.trace_file.specs.Trace.{end_number, told_of_trace, text_of_trace};
 
 use crate::runs::Run;
 use crate::state::{MODE_AT, State, VALUES, values_of_state};
@@ -239,8 +239,8 @@ fn start(alloc: Global, vcpus: u8) -> Result<Vec<u8>, AllocError>
 
 /// The text of a trace.
 fn text(alloc: Global, t: &Trace) -> Result<Vec<u8>, AllocError>
-    requires { IsLawful (told t.now) }
-    ensures { IfOk result (λ v. v.items ≡ text_of (told t.now)) }
+    requires { IsLawfulTrace (told_of_trace t.now) }
+    ensures { IfOk result (λ v. v.items ≡ text_of_trace (told_of_trace t.now)) }
 {
     let mut out = start(alloc, t.vcpus)?;
     put_schedule(alloc, &mut out, &t.schedule)?;
@@ -255,8 +255,8 @@ fn text(alloc: Global, t: &Trace) -> Result<Vec<u8>, AllocError>
 
 /// The one text of a lawful trace.
 pub fn write_trace(alloc: Global, trace: &Trace) -> Result<Vec<u8>, NoMemory>
-    requires { IsLawful (told trace.now) }
-    ensures { IfOk result (λ v. v.items ≡ text_of (told trace.now)) }
+    requires { IsLawfulTrace (told_of_trace trace.now) }
+    ensures { IfOk result (λ v. v.items ≡ text_of_trace (told_of_trace trace.now)) }
 {
     Ok(text(alloc, trace)?)
 }

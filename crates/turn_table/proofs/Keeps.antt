@@ -18,11 +18,11 @@ use Rattle.turn_table.specs.declared.known.Guarded.{Guarded}
 use Rattle.turn_table.specs.declared.known.Guarded.TheVariants.{Board, View}
 use Rattle.turn_table.specs.Total.{total}
 use Rattle.turn_table.specs.Numbers.{at, weight, grown, times}
-use Rattle.run_evidence.specs.Config.{Config, IsLawful}
+use Rattle.run_evidence.specs.Config.{Config, IsLawfulSchedule}
 use Rattle.run_evidence.specs.Growing.{Begins, IsAllowedFrom, board_of, paged_at, views_count}
 use Rattle.run_evidence.proofs.Growing.{allowed_from_stays}
-use Rattle.turn_table.specs.Sound.{Log, IsEvidence, IsSound}
-use Rattle.turn_table.specs.Rule.{owns, is_word, holds, value_of, config_of, IsTruthful, IsTruthfulOrSpent, IsShared}
+use Rattle.turn_table.specs.Sound.{Log, IsEvidence, AreSoundLogs}
+use Rattle.turn_table.specs.Rule.{owns, is_word, holds_word, value_of, config_of, IsTruthfulPass, IsTruthfulOrSpent, IsShared}
 use Rattle.turn_table.specs.Steps.{Seated, with_board, tried_board, with_view, TookView, tried_view, own, after_board, after_view, gave, carried}
 use Rattle.turn_table.specs.Calls.{IsUnchanged, HasOneMore, IsOwnSteps}
 use Rattle.turn_table.proofs.Sums.{two_at, sum_set}
@@ -39,13 +39,13 @@ set_word : (words : List ℕ) (w x u : ℕ) → u ≢ w → get_or (set words w 
 set_word words w x u d = get_or-set_other words w u x 0 d
 
 module _ (c : Config) where
-  pub live_of : (h : List ℕ) (logs : List Log) (v : Known) → v.live ≡ true → IsTruthfulOrSpent c h logs v v.live → IsTruthful c h logs v
+  pub live_of : (h : List ℕ) (logs : List Log) (v : Known) → v.live ≡ true → IsTruthfulOrSpent c h logs v v.live → IsTruthfulPass c h logs v
   live_of h logs v e k = subst (λ b. IsTruthfulOrSpent c h logs v b) e k
 
-  pub knows_of : (h : List ℕ) (logs : List Log) (v : Known) → v.live ≡ true → IsTruthful c h logs v → IsTruthfulOrSpent c h logs v v.live
+  pub knows_of : (h : List ℕ) (logs : List Log) (v : Known) → v.live ≡ true → IsTruthfulPass c h logs v → IsTruthfulOrSpent c h logs v v.live
   knows_of h logs v e k = subst (λ b. IsTruthfulOrSpent c h logs v b) (sym e) k
 
-  knows_map : (h : List ℕ) (logs : List Log) (h' : List ℕ) (logs' : List Log) (v : Known) → (IsTruthful c h logs v → IsTruthful c h' logs' v) → (b : Bool) → IsTruthfulOrSpent c h logs v b → IsTruthfulOrSpent c h' logs' v b
+  knows_map : (h : List ℕ) (logs : List Log) (h' : List ℕ) (logs' : List Log) (v : Known) → (IsTruthfulPass c h logs v → IsTruthfulPass c h' logs' v) → (b : Bool) → IsTruthfulOrSpent c h logs v b → IsTruthfulOrSpent c h' logs' v b
   knows_map h logs h' logs' v f true x = f x
   knows_map h logs h' logs' v f false x = x
 
@@ -59,24 +59,24 @@ module _ (c : Config) where
 
   -- a word that was 0 becomes 1, and the pass holds its value
   out_taken : (words : List ℕ) (views : List Known) (id w : ℕ) (v n : Known) → get_elem? views id ≡ some v → v.holds ≡ None → n.holds ≡ Some w → w < length words → get_or words w 0 ≡ 0
-      → ((u : ℕ) → total (holds u) views ≡ get_or words u 0) → (u : ℕ) → total (holds u) (set views id n) ≡ get_or (set words w 1) u 0
+      → ((u : ℕ) → total (holds_word u) views ≡ get_or words u 0) → (u : ℕ) → total (holds_word u) (set views id n) ≡ get_or (set words w 1) u 0
   out_taken words views id w v n e free gets lt hit out u =
-      let sums = sum_set (holds u) views id v n e in let old = out u in let none_held : holds u v ≡ 0 = ap (is_word u) free in
+      let sums = sum_set (holds_word u) views id v n e in let old = out u in let none_held : holds_word u v ≡ 0 = ap (is_word u) free in
       dite (ℕ_discrete u w)
-      (λ q. let one : holds u n ≡ 1 = ap (is_word u) gets ∙ subst (λ (z : ℕ). is_word z (Some w) ≡ 1) (sym q) (word_here w) in
+      (λ q. let one : holds_word u n ≡ 1 = ap (is_word u) gets ∙ subst (λ (z : ℕ). is_word z (Some w) ≡ 1) (sym q) (word_here w) in
       let there : get_or (set words w 1) u 0 ≡ 1 = subst (λ (z : ℕ). get_or (set words w 1) z 0 ≡ 1) (sym q) (get_or-set_same words w 1 0 lt) in
       let was : get_or words u 0 ≡ 0 = subst (λ (z : ℕ). get_or words z 0 ≡ 0) (sym q) hit in omega arith)
-      (λ d. let zero_held : holds u n ≡ 0 = ap (is_word u) gets ∙ word_else u w d in let same = set_word words w 1 u d in omega arith)
+      (λ d. let zero_held : holds_word u n ≡ 0 = ap (is_word u) gets ∙ word_else u w d in let same = set_word words w 1 u d in omega arith)
 
   -- the word of a value that the pass gives becomes 0
   out_given : (words : List ℕ) (views : List Known) (id w : ℕ) (v n : Known) → get_elem? views id ≡ some v → v.holds ≡ Some w → n.holds ≡ None → w < length words → ((u : ℕ) → get_or words u 0 ≤ 1)
-      → ((u : ℕ) → total (holds u) views ≡ get_or words u 0) → (u : ℕ) → total (holds u) (set views id n) ≡ get_or (set words w 0) u 0
+      → ((u : ℕ) → total (holds_word u) views ≡ get_or words u 0) → (u : ℕ) → total (holds_word u) (set views id n) ≡ get_or (set words w 0) u 0
   out_given words views id w v n e has gone lt bit out u =
-      let sums = sum_set (holds u) views id v n e in let old = out u in let b = bit u in let none_held : holds u n ≡ 0 = ap (is_word u) gone in
+      let sums = sum_set (holds_word u) views id v n e in let old = out u in let b = bit u in let none_held : holds_word u n ≡ 0 = ap (is_word u) gone in
       dite (ℕ_discrete u w)
-      (λ q. let one : holds u v ≡ 1 = ap (is_word u) has ∙ subst (λ (z : ℕ). is_word z (Some w) ≡ 1) (sym q) (word_here w) in
+      (λ q. let one : holds_word u v ≡ 1 = ap (is_word u) has ∙ subst (λ (z : ℕ). is_word z (Some w) ≡ 1) (sym q) (word_here w) in
       let there : get_or (set words w 0) u 0 ≡ 0 = subst (λ (z : ℕ). get_or (set words w 0) z 0 ≡ 0) (sym q) (get_or-set_same words w 0 0 lt) in omega arith)
-      (λ d. let zero_held : holds u v ≡ 0 = ap (is_word u) has ∙ word_else u w d in let same = set_word words w 0 u d in omega arith)
+      (λ d. let zero_held : holds_word u v ≡ 0 = ap (is_word u) has ∙ word_else u w d in let same = set_word words w 0 u d in omega arith)
 
   bit_set : (words : List ℕ) (w x : ℕ) → w < length words → x ≤ 1 → ((u : ℕ) → get_or words u 0 ≤ 1) → (u : ℕ) → get_or (set words w x) u 0 ≤ 1
   bit_set words w x lt small bit u = dite (ℕ_discrete u w)
@@ -128,7 +128,7 @@ module _ (c : Config) where
           (λ _. (
             r.schedule,
             L.seen,
-            subst (λ (d : Config). IsLawful d r.schedule) (sym L.config) r.sound.lawful,
+            subst (λ (d : Config). IsLawfulSchedule d r.schedule) (sym L.config) r.sound.lawful,
             subst (λ (d : Config). (k : ℕ) → IsEvidence d r.schedule k (log_in m.0.logs k)) (sym L.config) (λ k. evidence_begins c r.schedule k (log_in m.0.logs k) (log_in r.logs k) (L.logs_seen k) (r.sound.evidence k)),
             L.counts,
             ap (λ (d : Config). (n, (0, Some (Board (board_of d r.schedule))) ∷ m.1)) (sym L.config),
@@ -185,7 +185,7 @@ module _ (c : Config) where
   takes_view slots id k w m is live free below = let e : suc k ≡ w = omega arith in
       subst (λ (x : ℕ). Allows (IsShared c) slots id m x (λ n. either (eqb n 0) 1 n) (tried_view (step slots x 0 1 none) m)) e (takes_view_at slots id k m live free below)
 
-  other_steps : (h : List ℕ) (logs : List Log) (n i : ℕ) (u : Known) → weight (at u.counts i) ≡ 0 → holds 0 u ≡ 0 → IsTruthful c h logs u → IsTruthful c (h ++ replicate n i) logs u
+  other_steps : (h : List ℕ) (logs : List Log) (n i : ℕ) (u : Known) → weight (at u.counts i) ≡ 0 → holds_word 0 u ≡ 0 → IsTruthfulPass c h logs u → IsTruthfulPass c (h ++ replicate n i) logs u
   other_steps h logs n i u none_own none_held L = record {
     config = L.config;
     seen = begins_more u.seen h (replicate n i) L.seen;
@@ -196,11 +196,11 @@ module _ (c : Config) where
         let apart : j ≢ i = λ q. let a : weight (at u.counts i) ≡ 1 = Owners.weight_one (at u.counts i) k (subst (λ (z : ℕ). at u.counts z ≡ Some k) q e) in absurd (omega arith) in
         let a = Owners.times-append j h (replicate n i) in let b = Owners.times-other j i n apart in omega arith;
     some_number = L.some_number;
-    has_board = λ b. let a : holds 0 u ≡ 1 = ap (is_word 0) b in absurd (omega arith);
+    has_board = λ b. let a : holds_word 0 u ≡ 1 = ap (is_word 0) b in absurd (omega arith);
     has_view = L.has_view;
   }
 
-  other_entries : (h : List ℕ) (logs : List Log) (k : ℕ) (log : Log) (u : Known) → k < length logs → Begins (log_in logs k) log → holds (suc k) u ≡ 0 → IsTruthful c h logs u → IsTruthful c h (set logs k log) u
+  other_entries : (h : List ℕ) (logs : List Log) (k : ℕ) (log : Log) (u : Known) → k < length logs → Begins (log_in logs k) log → holds_word (suc k) u ≡ 0 → IsTruthfulPass c h logs u → IsTruthfulPass c h (set logs k log) u
   other_entries h logs k log u lt b none_held L = record {
     config = L.config;
     seen = L.seen;
@@ -211,11 +211,11 @@ module _ (c : Config) where
     some_number = L.some_number;
     has_board = L.has_board;
     has_view = λ j q. dite (ℕ_discrete j k)
-        (λ e. let a : holds (suc k) u ≡ 1 = ap (is_word (suc k)) (q ∙ ap (λ (z : ℕ). Some (suc z)) e) ∙ word_here (suc k) in absurd (omega arith))
+        (λ e. let a : holds_word (suc k) u ≡ 1 = ap (is_word (suc k)) (q ∙ ap (λ (z : ℕ). Some (suc z)) e) ∙ word_here (suc k) in absurd (omega arith))
         (λ d. L.has_view j q ∙ sym (log_else c logs k j log d));
   }
 
-  gave_board_live : (h : List ℕ) (logs : List Log) (n : ℕ) (v : Known) → v.seen ≡ h → IsTruthful c h logs v → IsTruthful c (h ++ replicate n (own v)) logs (after_board v (h ++ replicate n (own v)))
+  gave_board_live : (h : List ℕ) (logs : List Log) (n : ℕ) (v : Known) → v.seen ≡ h → IsTruthfulPass c h logs v → IsTruthfulPass c (h ++ replicate n (own v)) logs (after_board v (h ++ replicate n (own v)))
   gave_board_live h logs n v seen L =
       let i : ℕ = own v in
       let k = h ++ replicate n i in
@@ -245,7 +245,7 @@ module _ (c : Config) where
         has_view = λ k b. absurd cc;
       }
 
-  board_weight : (h : List ℕ) (logs : List Log) (v : Known) (k : List ℕ) → IsTruthful c h logs v → (i : ℕ) → owns i (after_board v k) ≡ owns i v
+  board_weight : (h : List ℕ) (logs : List Log) (v : Known) (k : List ℕ) → IsTruthfulPass c h logs v → (i : ℕ) → owns i (after_board v k) ≡ owns i v
   board_weight h logs v k L i =
       let mine = Owners.at-least v.counts L.some_number.0 L.some_number.1 L.some_number.2 in
       let within : own v < length v.counts = Owners.at-within v.counts (own v) mine.0 mine.1 in
@@ -263,8 +263,8 @@ module _ (c : Config) where
   view_else h logs k log (suc j) d = ap (λ z. View (paged_at c j z)) (log_else c logs k j log (λ e. d (ap suc e)))
 
   gave_keeps : (s : State (Option Guarded) Known) (r : IsShared c s) (id w : ℕ) (v n : Known) (x : Guarded) (h' : List ℕ) (logs' : List Log) → get_elem? s.views id ≡ some v → v.holds ≡ Some w → n.holds ≡ None
-      → w < suc (views_count c) → length logs' ≡ views_count c → x ≡ value_of c h' logs' w → IsSound c h' logs' → ((u : ℕ) → u ≢ w → value_of c h' logs' u ≡ value_of c r.schedule r.logs u)
-      → IsTruthfulOrSpent c h' logs' n n.live → ((j : ℕ) (u : Known) → j ≢ id → get_elem? s.views j ≡ some u → IsTruthful c r.schedule r.logs u → IsTruthful c h' logs' u)
+      → w < suc (views_count c) → length logs' ≡ views_count c → x ≡ value_of c h' logs' w → AreSoundLogs c h' logs' → ((u : ℕ) → u ≢ w → value_of c h' logs' u ≡ value_of c r.schedule r.logs u)
+      → IsTruthfulOrSpent c h' logs' n n.live → ((j : ℕ) (u : Known) → j ≢ id → get_elem? s.views j ≡ some u → IsTruthfulPass c r.schedule r.logs u → IsTruthfulPass c h' logs' u)
       → ((i : ℕ) → owns i n ≡ owns i v) → IsShared c (stepped s w 0 id ((w, Some x) ∷ []) n gives)
   gave_keeps s r id w v n x h' logs' e has gone lt deep is sound things live others weights =
       let wide = r.wide in let slots = r.slots in let within : w < length s.words = omega arith in record {
@@ -285,11 +285,11 @@ module _ (c : Config) where
       }
 
   -- what the rule says of others than the pass that holds the word w
-  alone_holds : (s : State (Option Guarded) Known) (r : IsShared c s) (id w : ℕ) (v : Known) → get_elem? s.views id ≡ some v → v.holds ≡ Some w → (j : ℕ) (u : Known) → j ≢ id → get_elem? s.views j ≡ some u → holds w u ≡ 0
-  alone_holds s r id w v e has j u d q = let one : holds w v ≡ 1 = ap (is_word w) has ∙ word_here w in let t = two_at (holds w) s.views j id u v d q e in let o = r.out w in let b = r.bit w in omega arith
+  alone_holds : (s : State (Option Guarded) Known) (r : IsShared c s) (id w : ℕ) (v : Known) → get_elem? s.views id ≡ some v → v.holds ≡ Some w → (j : ℕ) (u : Known) → j ≢ id → get_elem? s.views j ≡ some u → holds_word w u ≡ 0
+  alone_holds s r id w v e has j u d q = let one : holds_word w v ≡ 1 = ap (is_word w) has ∙ word_here w in let t = two_at (holds_word w) s.views j id u v d q e in let o = r.out w in let b = r.bit w in omega arith
 
   -- giving the board
-  pub gives_board : (slots id n : ℕ) (v : Known) (b : Seat) → v.live ≡ true → v.holds ≡ Some 0 → b ≡ board_of (config_of v) b.schedule → IsLawful (config_of v) b.schedule
+  pub gives_board : (slots id n : ℕ) (v : Known) (b : Seat) → v.live ≡ true → v.holds ≡ Some 0 → b ≡ board_of (config_of v) b.schedule → IsLawfulSchedule (config_of v) b.schedule
       → b.schedule ≡ v.seen ++ replicate n (own v) → IsAllowedFrom (config_of v) v.logs b.schedule (length v.seen)
       → Allows (IsShared c) slots id (v, (0, Some (Board b)) ∷ []) 0 (λ _. 0) (gave (step slots 0 0 0 none) (v, (0, Some (Board b)) ∷ []))
   gives_board slots id n v b live has is lawful steps allowed s r wide e lt =
@@ -298,7 +298,7 @@ module _ (c : Config) where
       let h' : List ℕ = r.schedule ++ replicate n (own v) in
       let same : b.schedule ≡ h' = steps ∙ ap (λ z. z ++ replicate n (own v)) seen in
       let is' : b ≡ board_of c h' = is ∙ (λ i. board_of (L.config i) (same i)) in
-      let lawful' : IsLawful c h' = subst (λ z. IsLawful c z) same (subst (λ (d : Config). IsLawful d b.schedule) L.config lawful) in
+      let lawful' : IsLawfulSchedule c h' = subst (λ z. IsLawfulSchedule c z) same (subst (λ (d : Config). IsLawfulSchedule d b.schedule) L.config lawful) in
       let mine : IsAllowedFrom c v.logs h' (length r.schedule) = subst (λ (z : List ℕ). IsAllowedFrom c v.logs h' (length z)) seen (subst (λ z. IsAllowedFrom c v.logs z (length v.seen)) same (subst (λ (d : Config). IsAllowedFrom d v.logs b.schedule (length v.seen)) L.config allowed)) in
       let all : IsAllowedFrom c r.logs h' (length r.schedule) = allowed_from_stays c h' (length r.schedule) v.logs r.logs L.logs_seen mine in
       let own_it = Owners.at-least v.counts L.some_number.0 L.some_number.1 L.some_number.2 in
@@ -317,7 +317,7 @@ module _ (c : Config) where
       )
 
   -- giving a view: its log becomes this one
-  gave_view_live : (h : List ℕ) (logs : List Log) (k : ℕ) (log : Log) (v : Known) → k < views_count c → length logs ≡ views_count c → Begins (log_in logs k) log → IsTruthful c h logs v → IsTruthful c h (set logs k log) (after_view v k log)
+  gave_view_live : (h : List ℕ) (logs : List Log) (k : ℕ) (log : Log) (v : Known) → k < views_count c → length logs ≡ views_count c → Begins (log_in logs k) log → IsTruthfulPass c h logs v → IsTruthfulPass c h (set logs k log) (after_view v k log)
   gave_view_live h logs k log v below deep b L =
       let deeper = L.deep in let within : k < length v.logs = omega arith in let there : k < length logs = omega arith in record {
         config = L.config;
@@ -362,7 +362,7 @@ module _ (c : Config) where
 
   -- the same of a seat as it is config_of after the exchange
   pub gives_board_seat : (slots id : ℕ) (m : Seated) (v : Known) (b : Seat) → m ≡ (v, (0, Some (Board b)) ∷ rest (carried v.holds)) → v.live ≡ true → v.holds ≡ Some 0 → b ≡ board_of (config_of v) b.schedule
-      → IsLawful (config_of v) b.schedule → IsOwnSteps v b.schedule → IsAllowedFrom (config_of v) v.logs b.schedule (length v.seen)
+      → IsLawfulSchedule (config_of v) b.schedule → IsOwnSteps v b.schedule → IsAllowedFrom (config_of v) v.logs b.schedule (length v.seen)
       → Allows (IsShared c) slots id m 0 (λ _. 0) (gave (step slots 0 0 0 none) m)
   gives_board_seat slots id m v b is live has whole lawful steps allowed =
       let here : m ≡ (v, (0, Some (Board b)) ∷ []) = is ∙ ap (λ t. (v, (0, Some (Board b)) ∷ rest (carried t))) has in

@@ -6,11 +6,11 @@ use mathlib.Core.Logic.{dite}
 use native.Mathlib.Decide.{ℕ_discrete}
 use Rattle.chain_log.specs.declared.entry.LogEntry.{LogEntry}
 use Rattle.view_store.specs.Paged.{is_logged}
-use Rattle.run_evidence.specs.Config.{Config, IsLawful}
+use Rattle.run_evidence.specs.Config.{Config, IsLawfulSchedule}
 use Rattle.run_evidence.specs.Evidence.{IsJustified, AllJustified, AllOfView, IsOnce, log_in}
 use Rattle.run_evidence.specs.Growing.{Begins, IsAllowedFrom}
 use Rattle.run_evidence.proofs.Growing.{justified_later, allowed_is_from_start, allowed_from_stays, allowed_joins}
-use Rattle.turn_table.specs.Sound.{Log, IsEvidence, IsSound}
+use Rattle.turn_table.specs.Sound.{Log, IsEvidence, AreSoundLogs}
 
 pub begins_whole : {X : Type 0} (xs : List X) → Begins xs xs
 begins_whole xs = ([], sym (append-nil xs))
@@ -86,7 +86,7 @@ module _ (c : Config) where
       → IsEvidence c schedule v (log ++ e ∷ [])
   evidence_push schedule v log e t new of new_group = record { of_view = of_view_push v log e t.of_view of; justified = justified_push schedule log e t.justified new; once = once_push log e t.once new_group }
 
-  pub sound_steps : (schedule later : List ℕ) (logs : List Log) → IsSound c schedule logs → IsLawful c (schedule ++ later) → IsAllowedFrom c logs (schedule ++ later) (length schedule) → IsSound c (schedule ++ later) logs
+  pub sound_steps : (schedule later : List ℕ) (logs : List Log) → AreSoundLogs c schedule logs → IsLawfulSchedule c (schedule ++ later) → IsAllowedFrom c logs (schedule ++ later) (length schedule) → AreSoundLogs c (schedule ++ later) logs
   sound_steps schedule later logs s lawful new = record {
     lawful = lawful;
     evidence = λ v. evidence_more schedule later v (log_in logs v) (s.evidence v);
@@ -108,7 +108,7 @@ module _ (c : Config) where
   pub begins_set : (logs : List Log) (k : ℕ) (log : Log) → k < length logs → Begins (log_in logs k) log → (j : ℕ) → Begins (log_in logs j) (log_in (set logs k log) j)
   begins_set logs k log lt b = each_log (λ j z. Begins (log_in logs j) z) logs k log lt b (λ j. begins_whole (log_in logs j))
 
-  pub sound_entries : (schedule : List ℕ) (logs : List Log) (k : ℕ) (log : Log) → k < length logs → Begins (log_in logs k) log → IsEvidence c schedule k log → IsSound c schedule logs → IsSound c schedule (set logs k log)
+  pub sound_entries : (schedule : List ℕ) (logs : List Log) (k : ℕ) (log : Log) → k < length logs → Begins (log_in logs k) log → IsEvidence c schedule k log → AreSoundLogs c schedule logs → AreSoundLogs c schedule (set logs k log)
   sound_entries schedule logs k log lt b new s = record {
     lawful = s.lawful;
     evidence = each_log (λ j z. IsEvidence c schedule j z) logs k log lt new s.evidence;

@@ -12,10 +12,10 @@ use Rattle.turn_table.specs.declared.known.Guarded.TheVariants.{Board, View}
 use Rattle.turn_table.specs.Numbers.{at, weight, times, counts_from}
 use Rattle.run_evidence.specs.Config.{Config}
 use Rattle.run_evidence.specs.Evidence.{log_in}
-use Rattle.run_evidence.specs.Growing.{board_of, paged_at, views_count}
-use Rattle.turn_table.specs.Sound.{Log, IsSound}
+use Rattle.run_evidence.specs.Growing.{board_of, paged_at, views_count, logs_of}
+use Rattle.turn_table.specs.Sound.{Log, AreSoundLogs}
 use Rattle.turn_table.specs.Steps.{first_known}
-use Rattle.turn_table.specs.Rule.{owns, value_of, IsTruthfulOrSpent, IsShared, logs_of, view_slot, AreViews}
+use Rattle.turn_table.specs.Rule.{owns, value_of, IsTruthfulOrSpent, IsShared, view_slot, AreViews}
 use Rattle.turn_table.proofs.Logs.{begins_whole}
 use Rattle.turn_table.proofs.Owners
 
@@ -45,7 +45,7 @@ module _ (c : Config) where
 
   pub opens : (b : Seat) (ps : List PagedView) (v : Known)
       → v ≡ first_known c b.schedule (logs_of ps)
-      → 0 < c.setup.vcpus → b ≡ board_of c b.schedule → length ps ≡ views_count c → AreViews c (logs_of ps) ps → IsSound c b.schedule (logs_of ps)
+      → 0 < c.setup.vcpus → b ≡ board_of c b.schedule → length ps ≡ views_count c → AreViews c (logs_of ps) ps → AreSoundLogs c b.schedule (logs_of ps)
       → IsShared c (opening (replicate (length ps + 1) 0) (Some (Board b) ∷ map view_slot ps) v)
   opens b ps v is some_vcpu whole many views sound =
       let n : ℕ = c.setup.vcpus in

@@ -2,7 +2,7 @@
 use Rattle.std.proofs.Common.{◌≡◌, ◌≢◌, ℕ, zero, suc, ◌+◌, ◌<◌, ◌≤◌, Bool, true, false, cond, Option, Some, None, List, [], ◌∷◌, ◌++◌, length, set, replicate, ◌⊎◌, inl, inr, sym, refl, ap, ◌∙◌, subst, arith, eq-eqb, ne_eqb, length-set}
 use mathlib.Core.Logic.{dite}
 use native.Mathlib.Decide.{ℕ_discrete}
-use Rattle.turn_table.specs.Numbers.{Counts, at, weight, owns_some, least, greatest, grown, alone, without, either_count, together, times, counts_from}
+use Rattle.turn_table.specs.Numbers.{Counts, at, weight, owns_some, least, greatest, grown, alone, counts_without, either_count, together, times, counts_from}
 
 pub times-append : (i : ℕ) (xs ys : List ℕ) → times i (xs ++ ys) ≡ times i xs + times i ys
 times-append i [] ys = omega arith
@@ -82,15 +82,15 @@ alone_here c i h = at_set_here (replicate (length c) None) i (at c i) (let e = n
 pub alone_else : (c : Counts) (i j : ℕ) → j ≢ i → at (alone c i) j ≡ None
 alone_else c i j d = at_set_else (replicate (length c) None) i j (at c i) d ∙ at_nones (length c) j
 
-pub apart_weight : (c : Counts) (g i : ℕ) → g < length c → weight (at (without c g) i) + weight (at (alone c g) i) ≡ weight (at c i)
+pub apart_weight : (c : Counts) (g i : ℕ) → g < length c → weight (at (counts_without c g) i) + weight (at (alone c g) i) ≡ weight (at c i)
 apart_weight c g i h = dite (ℕ_discrete i g)
-    (λ e. subst (λ (z : ℕ). weight (at (without c g) z) + weight (at (alone c g) z) ≡ weight (at c z)) (sym e)
-    (let a : weight (at (without c g) g) ≡ 0 = ap weight (at_set_here c g None h) in let b : weight (at (alone c g) g) ≡ weight (at c g) = ap weight (alone_here c g h) in omega arith))
-    (λ d. let a : weight (at (without c g) i) ≡ weight (at c i) = ap weight (at_set_else c g i None d) in let b : weight (at (alone c g) i) ≡ 0 = ap weight (alone_else c g i d) in omega arith)
+    (λ e. subst (λ (z : ℕ). weight (at (counts_without c g) z) + weight (at (alone c g) z) ≡ weight (at c z)) (sym e)
+    (let a : weight (at (counts_without c g) g) ≡ 0 = ap weight (at_set_here c g None h) in let b : weight (at (alone c g) g) ≡ weight (at c g) = ap weight (alone_here c g h) in omega arith))
+    (λ d. let a : weight (at (counts_without c g) i) ≡ weight (at c i) = ap weight (at_set_else c g i None d) in let b : weight (at (alone c g) i) ≡ 0 = ap weight (alone_else c g i d) in omega arith)
 
-pub without_at : (c : Counts) (g i n : ℕ) → g < length c → at (without c g) i ≡ Some n → at c i ≡ Some n
+pub without_at : (c : Counts) (g i n : ℕ) → g < length c → at (counts_without c g) i ≡ Some n → at c i ≡ Some n
 without_at c g i n h e = dite (ℕ_discrete i g)
-    (λ q. absurd (none_some n (sym (at_set_here c g None h) ∙ subst (λ (z : ℕ). at (without c g) z ≡ Some n) q e)))
+    (λ q. absurd (none_some n (sym (at_set_here c g None h) ∙ subst (λ (z : ℕ). at (counts_without c g) z ≡ Some n) q e)))
     (λ d. sym (at_set_else c g i None d) ∙ e)
 
 pub alone_at : (c : Counts) (g i n : ℕ) → g < length c → at (alone c g) i ≡ Some n → at c i ≡ Some n

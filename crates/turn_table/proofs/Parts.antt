@@ -13,47 +13,47 @@ use Rattle.turn_table.specs.declared.known.Guarded.{Guarded}
 use Rattle.turn_table.specs.declared.known.Guarded.TheVariants.{Board, View}
 use Rattle.turn_table.specs.Total.{total}
 use Rattle.turn_table.specs.Numbers.{at, weight, least, greatest, either_count}
-use Rattle.run_evidence.specs.Config.{Config, IsLawful}
+use Rattle.run_evidence.specs.Config.{Config, IsLawfulSchedule}
 use Rattle.run_evidence.specs.Evidence.{log_in}
-use Rattle.run_evidence.specs.Growing.{Begins, board_of, paged_at, views_count}
+use Rattle.run_evidence.specs.Growing.{Begins, board_of, paged_at, views_count, logs_of}
 use Rattle.run_evidence.proofs.Growing.{fronts_are_lawful}
-use Rattle.turn_table.specs.Sound.{Log, IsSound}
-use Rattle.turn_table.specs.Rule.{owns, is_word, holds, value_of, IsTruthful, spent, IsTruthfulOrSpent, IsShared, logs_of, view_slot, AreViews, slots_of}
-use Rattle.turn_table.specs.Steps.{Seated, without_greatest, greatest_alone, is_start, longer_logs, with_both, shut_out, joined, IsConsistent, looked}
+use Rattle.turn_table.specs.Sound.{Log, AreSoundLogs}
+use Rattle.turn_table.specs.Rule.{owns, is_word, holds_word, value_of, IsTruthfulPass, spent, IsTruthfulOrSpent, IsShared, view_slot, AreViews, slots_of}
+use Rattle.turn_table.specs.Steps.{Seated, without_greatest, greatest_alone, is_beginning, longer_logs, with_both, shut_out, joined_known, IsConsistent, looked}
 use Rattle.turn_table.specs.Calls.{OwnsAll, IsJoined}
 use Rattle.turn_table.proofs.Sums.{two_at, sum_set, sum_none, total-append}
 use Rattle.turn_table.proofs.Logs.{begins_whole}
 use Rattle.turn_table.proofs.Keeps.{live_of, each_set, missed_keeps}
 use Rattle.turn_table.proofs.Owners
 
-start_begins : (xs ys : List ℕ) → is_start xs ys ≡ true → Begins xs ys
+start_begins : (xs ys : List ℕ) → is_beginning xs ys ≡ true → Begins xs ys
 start_begins [] ys e = (ys, refl)
 start_begins (x ∷ xs) [] e = absurd cc
 start_begins (x ∷ xs) (y ∷ ys) e = dite (ℕ_discrete x y)
-    (λ q. let t = start_begins xs ys (subst (λ b. (b && is_start xs ys) ≡ true) (eq-eqb x y q) e) in (t.0, λ i. sym q i ∷ t.1 i))
-    (λ d. absurd (let z : false ≡ true = subst (λ b. (b && is_start xs ys) ≡ true) (ne_eqb x y d) e in cc))
+    (λ q. let t = start_begins xs ys (subst (λ b. (b && is_beginning xs ys) ≡ true) (eq-eqb x y q) e) in (t.0, λ i. sym q i ∷ t.1 i))
+    (λ d. absurd (let z : false ≡ true = subst (λ b. (b && is_beginning xs ys) ≡ true) (ne_eqb x y d) e in cc))
 
 -- of two beginnings of one list, one begins the other
-either_start : (xs ys h : List ℕ) → Begins xs h → Begins ys h → is_start xs ys ≡ false → is_start ys xs ≡ true
+either_start : (xs ys h : List ℕ) → Begins xs h → Begins ys h → is_beginning xs ys ≡ false → is_beginning ys xs ≡ true
 either_start [] ys h a b e = absurd cc
 either_start (x ∷ xs) [] h a b e = refl
 either_start (x ∷ xs) (y ∷ ys) [] a b e = absurd (let z = a.1 in cc)
 either_start (x ∷ xs) (y ∷ ys) (z ∷ h) a b e =
     let p : z ≡ x = ap (λ l. get_or l 0 0) a.1 in let q : z ≡ y = ap (λ l. get_or l 0 0) b.1 in
     let s : x ≡ y = sym p ∙ q in
-    let t = either_start xs ys h (a.0, ap (drop 1) a.1) (b.0, ap (drop 1) b.1) (subst (λ b. (b && is_start xs ys) ≡ false) (eq-eqb x y s) e) in
+    let t = either_start xs ys h (a.0, ap (drop 1) a.1) (b.0, ap (drop 1) b.1) (subst (λ b. (b && is_beginning xs ys) ≡ false) (eq-eqb x y s) e) in
     rw (eq-eqb y x (sym s)) t
 
-joined_by : (h : List ℕ) (v w : Known) → Begins v.seen h → Begins w.seen h → (b : Bool) → is_start v.seen w.seen ≡ b → (d : Bool) → is_start w.seen v.seen ≡ d
+joined_by : (h : List ℕ) (v w : Known) → Begins v.seen h → Begins w.seen h → (b : Bool) → is_beginning v.seen w.seen ≡ b → (d : Bool) → is_beginning w.seen v.seen ≡ d
     → (seen : List ℕ) × (cond b (with_both v w w.seen) (cond d (with_both v w v.seen) (shut_out v)) ≡ with_both v w seen) × Begins seen h
 joined_by h v w x y true is d also = (w.seen, refl, y)
 joined_by h v w x y false is true also = (v.seen, refl, x)
 joined_by h v w x y false is false also = absurd (let z : false ≡ true = sym also ∙ either_start v.seen w.seen h x y is in cc)
 
-joined_is : (h : List ℕ) (v w : Known) → Begins v.seen h → Begins w.seen h → (seen : List ℕ) × (joined v w ≡ with_both v w seen) × Begins seen h
-joined_is h v w x y = joined_by h v w x y (is_start v.seen w.seen) refl (is_start w.seen v.seen) refl
+joined_is : (h : List ℕ) (v w : Known) → Begins v.seen h → Begins w.seen h → (seen : List ℕ) × (joined_known v w ≡ with_both v w seen) × Begins seen h
+joined_is h v w x y = joined_by h v w x y (is_beginning v.seen w.seen) refl (is_beginning w.seen v.seen) refl
 
-known_by : (v w : Known) (b : Bool) → is_start v.seen w.seen ≡ b → (d : Bool) → is_start w.seen v.seen ≡ d → IsConsistent (cond b (with_both v w w.seen) (cond d (with_both v w v.seen) (shut_out v)))
+known_by : (v w : Known) (b : Bool) → is_beginning v.seen w.seen ≡ b → (d : Bool) → is_beginning w.seen v.seen ≡ d → IsConsistent (cond b (with_both v w w.seen) (cond d (with_both v w v.seen) (shut_out v)))
     → IsJoined v w (cond b (with_both v w w.seen) (cond d (with_both v w v.seen) (shut_out v)))
 known_by v w true is d also k = record { config = refl; free = refl; counts = refl; seen = start_begins v.seen w.seen is; other_seen = begins_whole w.seen; logs = refl; consistent = k }
 known_by v w false is true also k = record { config = refl; free = refl; counts = refl; seen = begins_whole v.seen; other_seen = start_begins w.seen v.seen also; logs = refl; consistent = k }
@@ -65,11 +65,11 @@ live_by v w false true = refl
 live_by v w false false = refl
 
 -- what a joined pass is, once a look told that the rule knows it
-pub known_joined : (v w : Known) → IsConsistent (joined v w) → IsJoined v w (joined v w)
-known_joined v w k = known_by v w (is_start v.seen w.seen) refl (is_start w.seen v.seen) refl k
+pub known_joined : (v w : Known) → IsConsistent (joined_known v w) → IsJoined v w (joined_known v w)
+known_joined v w k = known_by v w (is_beginning v.seen w.seen) refl (is_beginning w.seen v.seen) refl k
 
-pub joined_lives : (v w : Known) → (joined v w).live ≡ true
-joined_lives v w = live_by v w (is_start v.seen w.seen) (is_start w.seen v.seen)
+pub joined_lives : (v w : Known) → (joined_known v w).live ≡ true
+joined_lives v w = live_by v w (is_beginning v.seen w.seen) (is_beginning w.seen v.seen)
 
 longer_by : {X : Type 0} (b : Bool) (xs ys h : List X) → Begins xs h → Begins ys h → Begins (cond b ys xs) h
 longer_by true xs ys h a b = b
@@ -89,7 +89,7 @@ longer_at (x ∷ xs) (y ∷ ys) (l ∷ logs) e a b zero = longer_by (nat_le (len
 longer_at (x ∷ xs) (y ∷ ys) (l ∷ logs) e a b (suc k) = longer_at xs ys logs (omega arith) (λ j. a (suc j)) (λ j. b (suc j)) k
 
 module _ (c : Config) where
-  left_live : (h : List ℕ) (logs : List Log) (v : Known) → least v.counts < greatest v.counts → greatest v.counts < length v.counts → IsTruthful c h logs v → IsTruthful c h logs (without_greatest v)
+  left_live : (h : List ℕ) (logs : List Log) (v : Known) → least v.counts < greatest v.counts → greatest v.counts < length v.counts → IsTruthfulPass c h logs v → IsTruthfulPass c h logs (without_greatest v)
   left_live h logs v more within L =
       let mine = Owners.at-least v.counts L.some_number.0 L.some_number.1 L.some_number.2 in record {
         config = L.config;
@@ -103,7 +103,7 @@ module _ (c : Config) where
         has_view = λ k q. absurd cc;
       }
 
-  right_live : (h : List ℕ) (logs : List Log) (v : Known) → (k : ℕ) → at v.counts (greatest v.counts) ≡ Some k → IsTruthful c h logs v → IsTruthful c h logs (greatest_alone v)
+  right_live : (h : List ℕ) (logs : List Log) (v : Known) → (k : ℕ) → at v.counts (greatest v.counts) ≡ Some k → IsTruthfulPass c h logs v → IsTruthfulPass c h logs (greatest_alone v)
   right_live h logs v k e L =
       let within : greatest v.counts < length v.counts = Owners.at-within v.counts (greatest v.counts) k e in record {
         config = L.config;
@@ -135,8 +135,8 @@ module _ (c : Config) where
         slots = r.slots;
         deep = r.deep;
         bit = r.bit;
-        out = λ w. let none_held : holds w v ≡ 0 = ap (is_word w) free in let sums = sum_set (holds w) s.views id v l e in
-            let app = total-append (holds w) views (right ∷ []) in let old = r.out w in omega arith;
+        out = λ w. let none_held : holds_word w v ≡ 0 = ap (is_word w) free in let sums = sum_set (holds_word w) s.views id v l e in
+            let app = total-append (holds_word w) views (right ∷ []) in let old = r.out w in omega arith;
         home = r.home;
         each = λ j u q. ⊎_elim (each_set c h logs s.views id l (left_live h logs v more within L) (λ j' u' _ q'. r.each j' u' q') j u)
             (λ p. subst (λ (x : Known). IsTruthfulOrSpent c h logs x x.live) p (right_live h logs v top.0 top.1 L))
@@ -145,7 +145,7 @@ module _ (c : Config) where
             let w = Owners.apart_weight v.counts (greatest v.counts) i within in let o = r.once i lt in omega arith;
       }
 
-  both_live : (h seen : List ℕ) (logs : List Log) (v w : Known) → Begins seen h → IsTruthful c h logs v → IsTruthful c h logs w → IsTruthful c h logs (with_both v w seen)
+  both_live : (h seen : List ℕ) (logs : List Log) (v w : Known) → Begins seen h → IsTruthfulPass c h logs v → IsTruthfulPass c h logs w → IsTruthfulPass c h logs (with_both v w seen)
   both_live h seen logs v w b L M = let long : length v.counts ≡ length w.counts = L.long ∙ sym M.long in let deep : length v.logs ≡ length w.logs = L.deep ∙ sym M.deep in record {
     config = L.config;
     seen = b;
@@ -177,8 +177,8 @@ module _ (c : Config) where
         slots = r.slots;
         deep = r.deep;
         bit = r.bit;
-        out = λ u. let a = sum_set (holds u) s.views id v both e in let b = sum_set (holds u) views other w spent q in
-            let none_one : holds u v ≡ 0 = ap (is_word u) free in let none_two : holds u w ≡ 0 = ap (is_word u) frees in let old = r.out u in omega arith;
+        out = λ u. let a = sum_set (holds_word u) s.views id v both e in let b = sum_set (holds_word u) views other w spent q in
+            let none_one : holds_word u v ≡ 0 = ap (is_word u) free in let none_two : holds_word u w ≡ 0 = ap (is_word u) frees in let old = r.out u in omega arith;
         home = r.home;
         each = each_set c h logs views other spent refl
             (λ j u d p. each_set c h logs s.views id both (both_live h seen logs v w begins L M) (λ j' u' _ q'. r.each j' u' q') j u p);
@@ -190,9 +190,9 @@ module _ (c : Config) where
       }
 
   -- joining two
-  pub joins : (id : ℕ) (v : Known) (other : ℕ) (w : Known) → v.live ≡ true → w.live ≡ true → v.holds ≡ None → w.holds ≡ None → Joins (IsShared c) id v other w (joined v w) spent
+  pub joins : (id : ℕ) (v : Known) (other : ℕ) (w : Known) → v.live ≡ true → w.live ≡ true → v.holds ≡ None → w.holds ≡ None → Joins (IsShared c) id v other w (joined_known v w) spent
   joins id v other w live lives free frees s r e apart q =
-      let there : get_elem? s.views other ≡ some w = sym (set_else s.views id other (joined v w) apart) ∙ q in
+      let there : get_elem? s.views other ≡ some w = sym (set_else s.views id other (joined_known v w) apart) ∙ q in
       let L = live_of c r.schedule r.logs v live (r.each id v e) in
       let M = live_of c r.schedule r.logs w lives (r.each other w there) in
       let t = joined_is r.schedule v w L.seen M.seen in
@@ -203,7 +203,7 @@ module _ (c : Config) where
   pub looks : (slots id : ℕ) (m : Seated) → m.0.live ≡ true → Allows (IsShared c) slots id m 0 (λ n. n) (looked (step slots 0 0 0 none) m)
   looks slots id m live s r wide e lt =
       let L = live_of c r.schedule r.logs m.0 live (r.each id m.0 e) in
-      let lawful : IsLawful c m.0.seen = fronts_are_lawful c m.0.seen L.seen.0 (subst (λ z. IsLawful c z) L.seen.1 r.sound.lawful) in (
+      let lawful : IsLawfulSchedule c m.0.seen = fronts_are_lawful c m.0.seen L.seen.0 (subst (λ z. IsLawfulSchedule c z) L.seen.1 r.sound.lawful) in (
         m.0,
         keeps,
         tt,
@@ -212,7 +212,7 @@ module _ (c : Config) where
           refl,
           record {
             some_number = L.some_number;
-            lawful = subst (λ (d : Config). IsLawful d m.0.seen) (sym L.config) lawful;
+            lawful = subst (λ (d : Config). IsLawfulSchedule d m.0.seen) (sym L.config) lawful;
             long = L.long ∙ ap (λ (d : Config). d.setup.vcpus) (sym L.config);
             deep = L.deep ∙ ap views_count (sym L.config);
           },
@@ -221,10 +221,10 @@ module _ (c : Config) where
 
   -- another pass holds nothing where one owns all numbers
   none_holds : (h : List ℕ) (logs : List Log) (views : List Known) (id : ℕ) (v : Known) → get_elem? views id ≡ some v → OwnsAll (c.setup.vcpus) v → v.holds ≡ None
-      → ((i : ℕ) → i < c.setup.vcpus → total (owns i) views ≡ 1) → (w j : ℕ) (u : Known) → get_elem? views j ≡ some u → (b : Bool) → u.live ≡ b → IsTruthfulOrSpent c h logs u b → holds w u ≡ 0
+      → ((i : ℕ) → i < c.setup.vcpus → total (owns i) views ≡ 1) → (w j : ℕ) (u : Known) → get_elem? views j ≡ some u → (b : Bool) → u.live ≡ b → IsTruthfulOrSpent c h logs u b → holds_word w u ≡ 0
   none_holds h logs views id v e all free once w j u q true is K =
       dite (ℕ_discrete j id)
-      (λ same. let uv : u ≡ v = some-injective u v (sym q ∙ (ap (get_elem? views) same ∙ e)) in ap (holds w) uv ∙ ap (is_word w) free)
+      (λ same. let uv : u ≡ v = some-injective u v (sym q ∙ (ap (get_elem? views) same ∙ e)) in ap (holds_word w) uv ∙ ap (is_word w) free)
       (λ apart. let within : K.some_number.0 < length u.counts = Owners.at-within u.counts K.some_number.0 K.some_number.1 K.some_number.2 in
       let long = K.long in
       let lt : K.some_number.0 < c.setup.vcpus = omega arith in
@@ -232,7 +232,7 @@ module _ (c : Config) where
       let a : owns K.some_number.0 u ≡ 1 = Owners.weight_one (at u.counts K.some_number.0) K.some_number.1 K.some_number.2 in
       let b : owns K.some_number.0 v ≡ 1 = Owners.weight_one (at v.counts K.some_number.0) mine.0 mine.1 in
       let t = two_at (owns K.some_number.0) views j id u v apart q e in let o = once K.some_number.0 lt in absurd (omega arith))
-  none_holds h logs views id v e all free once w j u q false is K = ap (holds w) K
+  none_holds h logs views id v e all free once w j u q false is K = ap (holds_word w) K
 
   -- the views from number k on, with these logs
   abbrev pub paged_from : ℕ → List Log → List PagedView
@@ -274,15 +274,15 @@ module _ (c : Config) where
 
   -- what holds at the end
   pub record Ended (h : List ℕ) (logs : List Log) (v : Known) : Type 0 where
-    pub sound : IsSound c h logs
+    pub sound : AreSoundLogs c h logs
     pub deep : length logs ≡ views_count c
-    pub live : IsTruthful c h logs v
+    pub live : IsTruthfulPass c h logs v
 
   pub closes : (id : ℕ) (v : Known) (words : List ℕ) (slots : List (Option Guarded)) → v.live ≡ true → v.holds ≡ None → OwnsAll (c.setup.vcpus) v → Final (Seen (IsShared c) id v) words slots
       → (h : List ℕ) × (logs : List Log) × (slots ≡ slots_of (board_of c h) (paged_from 0 logs)) × Ended h logs v
   closes id v words slots live free all f =
       let s = f.0 in let r = f.1.0 in let e = f.1.1 in
-      let quiet : (w : ℕ) → total (holds w) s.views ≡ 0 = λ w. sum_none (holds w) s.views (λ j u q. none_holds r.schedule r.logs s.views id v e all free r.once w j u q u.live refl (r.each j u q)) in
+      let quiet : (w : ℕ) → total (holds_word w) s.views ≡ 0 = λ w. sum_none (holds_word w) s.views (λ j u q. none_holds r.schedule r.logs s.views id v e all free r.once w j u q u.live refl (r.each j u q)) in
       let word : (w : ℕ) → get_or s.words w 0 ≡ 0 = λ w. sym (r.out w) ∙ quiet w in
       let long : length slots ≡ suc (length r.logs) = let a = r.slots in let b = f.3 in let d = r.deep in omega arith in
       let there : (w : ℕ) → w < suc (length r.logs) → get_elem? slots w ≡ some (Some (value_of c r.schedule r.logs w)) =
@@ -321,16 +321,16 @@ pub record Closed (c : Config) (b : Seat) (ps : List PagedView) (v : Known) : Ty
   pub board : b ≡ board_of c b.schedule
   pub many : length ps ≡ views_count c
   pub each : AreViews c (logs_of ps) ps
-  pub sound : IsSound c b.schedule (logs_of ps)
-  pub pass : IsTruthful c b.schedule (logs_of ps) v
+  pub sound : AreSoundLogs c b.schedule (logs_of ps)
+  pub pass : IsTruthfulPass c b.schedule (logs_of ps) v
 
 paged_closed : (c : Config) (h : List ℕ) (logs : List Log) (v : Known) → Ended c h logs v → Closed c (board_of c h) (paged_from c 0 logs) v
 paged_closed c h logs v t = let same : logs ≡ logs_of (paged_from c 0 logs) = sym (logs_paged c 0 logs) in record {
   board = refl;
   many = paged_long c 0 logs ∙ t.deep;
   each = λ k p lt. let long = paged_long c 0 logs in let z : 0 + k ≡ k = omega arith in paged_from_at c 0 k logs p (omega arith) ∙ (ap (λ n. paged_at c n (log_in logs k)) z ∙ ap (λ z. paged_at c k (log_in z k)) same);
-  sound = subst (IsSound c h) same t.sound;
-  pass = subst (λ z. IsTruthful c h z v) same t.live;
+  sound = subst (AreSoundLogs c h) same t.sound;
+  pass = subst (λ z. IsTruthfulPass c h z v) same t.live;
 }
 
 pub closed_with : (c : Config) (id : ℕ) (v : Known) (words : List ℕ) (slots : List (Option Guarded)) (b : Seat) (ps : List PagedView) → v.live ≡ true → v.holds ≡ None → OwnsAll (c.setup.vcpus) v → Final (Seen (IsShared c) id v) words slots

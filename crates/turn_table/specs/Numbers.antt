@@ -37,8 +37,8 @@ abbrev pub alone : Counts → ℕ → Counts
 alone counts i = slice_set (replicate (length counts) None) i (at counts i)
 
 -- all numbers but i
-abbrev pub without : Counts → ℕ → Counts
-without counts i = slice_set counts i None
+abbrev pub counts_without : Counts → ℕ → Counts
+counts_without counts i = slice_set counts i None
 
 abbrev pub either_count : Option ℕ → Option ℕ → Option ℕ
 either_count None y = y

@@ -5,13 +5,12 @@ use Rattle.std.specs.Prelude.{◌≡◌, ℕ, zero, suc, ◌<◌, ◌≤◌, ◌
 use Rattle.fc_numbers.specs.declared.machine.GKind.TheVariants.{Sv39x4}
 use Rattle.guest_input.specs.declared.image.Image.{Image}
 use Rattle.guest_input.specs.declared.setup.Setup.{Setup}
-use Rattle.view_file.specs.declared.views.Views.{Views}
 use mathlib.Core.Option.{some}
 use lib.ListN.{get_elem?}
 use Rattle.atomic_table.specs.Table.{State}
 use Rattle.guest_board.specs.Board.{Seat}
 use Rattle.view_store.specs.Paged.{PagedView}
-use Rattle.run_evidence.specs.Config.{Config}
+use Rattle.run_evidence.specs.Config.{Config, no_views}
 use Rattle.run_evidence.specs.Evidence.{log_in}
 use Rattle.run_evidence.specs.Growing.{Begins, board_of, paged_at, views_count}
 use Rattle.turn_table.specs.declared.known.Known.{Known}
@@ -19,7 +18,7 @@ use Rattle.turn_table.specs.declared.known.Guarded.{Guarded}
 use Rattle.turn_table.specs.declared.known.Guarded.TheVariants.{Board, View}
 use Rattle.turn_table.specs.Total.{total}
 use Rattle.turn_table.specs.Numbers.{at, weight, times}
-use Rattle.turn_table.specs.Sound.{Log, IsSound}
+use Rattle.turn_table.specs.Sound.{Log, AreSoundLogs}
 
 -- what the pass's table was opened for
 abbrev pub config_of : Known → Config
@@ -34,8 +33,8 @@ is_word w None = 0
 is_word w (Some x) = if w == x then 1 else 0
 
 -- 1 where the pass holds the value of word w
-abbrev pub holds : ℕ → Known → ℕ
-holds w v = is_word w v.holds
+abbrev pub holds_word : ℕ → Known → ℕ
+holds_word w v = is_word w v.holds
 
 -- the value of word w after this schedule and with these logs
 abbrev pub value_of : Config → List ℕ → List Log → ℕ → Guarded
@@ -44,7 +43,7 @@ value_of c schedule logs (suc k) = View (paged_at c k (log_in logs k))
 
 -- What a pass knows is true, where the board's schedule and the views' logs are these: it has seen beginnings of them,
 -- and the whole of what it holds; each number that it owns has its steps; it owns some number.
-pub record IsTruthful (c : Config) (schedule : List ℕ) (logs : List Log) (v : Known) : Type 0 where
+pub record IsTruthfulPass (c : Config) (schedule : List ℕ) (logs : List Log) (v : Known) : Type 0 where
   pub config : config_of v ≡ c
   pub seen : Begins v.seen schedule
   pub deep : length v.logs ≡ views_count c
@@ -61,15 +60,12 @@ no_image = record { entry = 0; ranges = []; parts = []; functions = []; digest =
 abbrev pub no_setup : Setup
 no_setup = record { vcpus = 0; ram = 0; steps = 0; hook = None; name_at = 0; start = None; events = []; gstage = Sv39x4 }
 
-abbrev pub no_views : Views
-no_views = record { text = []; shared = []; apps = [] }
-
 -- what is left of a pass that was joined to another
 abbrev pub spent : Known
 spent = record { live = false; image = no_image; setup = no_setup; views = no_views; holds = None; seen = []; logs = []; counts = [] }
 
 abbrev pub IsTruthfulOrSpent : Config → List ℕ → List Log → Known → Bool → Type 0
-IsTruthfulOrSpent c schedule logs v true = IsTruthful c schedule logs v
+IsTruthfulOrSpent c schedule logs v true = IsTruthfulPass c schedule logs v
 IsTruthfulOrSpent c schedule logs v false = v ≡ spent
 
 -- The rule: there is one schedule and a log for each view, which are sound; a word is 1 exactly where one pass holds its
@@ -77,18 +73,15 @@ IsTruthfulOrSpent c schedule logs v false = v ≡ spent
 pub record IsShared (c : Config) (s : State (Option Guarded) Known) : Type 0 where
   pub schedule : List ℕ
   pub logs : List Log
-  pub sound : IsSound c schedule logs
+  pub sound : AreSoundLogs c schedule logs
   pub wide : length s.words ≡ suc (views_count c)
   pub slots : length s.homes ≡ suc (views_count c)
   pub deep : length logs ≡ views_count c
   pub bit : (w : ℕ) → slice_index s.words w ≤ 1
-  pub out : (w : ℕ) → total (holds w) s.views ≡ slice_index s.words w
+  pub out : (w : ℕ) → total (holds_word w) s.views ≡ slice_index s.words w
   pub home : (w : ℕ) → w < suc (views_count c) → slice_index s.words w ≡ 0 → get_elem? s.homes w ≡ some (some (Some (value_of c schedule logs w)))
   pub each : (j : ℕ) (v : Known) → get_elem? s.views j ≡ some v → IsTruthfulOrSpent c schedule logs v v.live
   pub once : (i : ℕ) → i < c.setup.vcpus → total (owns i) s.views ≡ 1
-
-abbrev pub logs_of : List PagedView → List Log
-logs_of ps = map (λ (p : PagedView). p.log) ps
 
 -- the views of a configuration, in order, with these logs
 abbrev pub AreViews : Config → List Log → List PagedView → Type 0

@@ -1,24 +1,24 @@
 -- What each step of a thread tells of its pass: of the step, the seat before, the number found and the seat after.
 use Rattle.std.specs.Prelude.{◌≡◌, ◌≢◌, ℕ, zero, suc, ◌-◌, ◌<◌, ◌==◌, ◌&&◌, Bool, true, false, if◌then◌else◌, nat_le, Option, Some, None, List, [], ◌∷◌, length, slice_set}
 use Rattle.atomic_table.specs.Table.{Me, Step, rest}
-use Rattle.run_evidence.specs.Config.{Config, IsLawful}
+use Rattle.run_evidence.specs.Config.{Config, IsLawfulSchedule}
 use Rattle.run_evidence.specs.Evidence.{log_in}
-use Rattle.run_evidence.specs.Growing.{Begins, board_of, paged_at, views_count}
+use Rattle.run_evidence.specs.Growing.{Begins, board_of, paged_at, views_count, logs_of}
 use Rattle.turn_table.specs.declared.known.Known.{Known}
 use Rattle.turn_table.specs.declared.known.Key.{Key}
 use Rattle.turn_table.specs.declared.known.Guarded.{Guarded}
 use Rattle.turn_table.specs.declared.known.Guarded.TheVariants.{Board, View}
-use Rattle.turn_table.specs.Numbers.{Counts, counts_from, at, least, greatest, grown, alone, without, times, together}
+use Rattle.turn_table.specs.Numbers.{Counts, counts_from, at, least, greatest, grown, alone, counts_without, times, together}
 use Rattle.turn_table.specs.Sound.{Log, IsEvidence}
-use Rattle.turn_table.specs.Rule.{config_of, logs_of}
+use Rattle.turn_table.specs.Rule.{config_of}
 
 -- what a pass knows, and the slots that it has out
 abbrev pub Seated : Type 0
 Seated = Me (Option Guarded) Known
 
 -- the pass with another value held, another schedule and other logs seen, and other numbers
-abbrev pub told : Known → Option ℕ → List ℕ → List Log → Counts → Known
-told v holds seen logs counts = record { live = true; image = v.image; setup = v.setup; views = v.views; holds = holds; seen = seen; logs = logs; counts = counts }
+abbrev pub known_with : Known → Option ℕ → List ℕ → List Log → Counts → Known
+known_with v holds seen logs counts = record { live = true; image = v.image; setup = v.setup; views = v.views; holds = holds; seen = seen; logs = logs; counts = counts }
 
 -- a pass that owns every number and has seen this schedule and these logs
 abbrev pub first_known : Config → List ℕ → List Log → Known
@@ -37,8 +37,8 @@ first_known c schedule logs = record {
 abbrev pub opened_for : Key → Config
 opened_for key = record { image = key.image.value; setup = key.setup.value; views = key.profile.value }
 
-abbrev pub first_by : Key → Known
-first_by key = first_known (opened_for key) key.board.value.schedule (logs_of key.views.value.items)
+abbrev pub first_known_by : Key → Known
+first_known_by key = first_known (opened_for key) key.board.value.schedule (logs_of key.views.value.items)
 
 -- the pass's own vCPU: the least that it owns
 abbrev pub own : Known → ℕ
@@ -46,12 +46,12 @@ own v = least v.counts
 
 -- it took the board, of this schedule
 abbrev pub with_board : Known → List ℕ → Known
-with_board v schedule = told v (Some 0) schedule v.logs v.counts
+with_board v schedule = known_with v (Some 0) schedule v.logs v.counts
 
 -- The board that is taken is that of a lawful schedule, which begins with the schedule seen, justifies the logs seen, and
 -- has as many steps of each vCPU that the pass owns as the pass counts.
 abbrev pub TookBoard : Seated → Seated → Type 0
-TookBoard m n = (schedule : List ℕ) × Begins m.0.seen schedule × IsLawful (config_of m.0) schedule × ((v : ℕ) → IsEvidence (config_of m.0) schedule v (log_in m.0.logs v))
+TookBoard m n = (schedule : List ℕ) × Begins m.0.seen schedule × IsLawfulSchedule (config_of m.0) schedule × ((v : ℕ) → IsEvidence (config_of m.0) schedule v (log_in m.0.logs v))
     × ((i steps : ℕ) → at m.0.counts i ≡ Some steps → steps ≡ times i schedule)
     × (n ≡ (with_board m.0 schedule, (0, Some (Board (board_of (config_of m.0) schedule))) ∷ m.1))
 
@@ -60,7 +60,7 @@ tried_board st m r n = (r ≡ 0 → TookBoard m n) × (r ≢ 0 → n ≡ m)
 
 -- it took view k, of this log; w is the view's word
 abbrev pub with_view : Known → ℕ → ℕ → Log → Known
-with_view v w k log = told v (Some w) v.seen (slice_set v.logs k log) v.counts
+with_view v w k log = known_with v (Some w) v.seen (slice_set v.logs k log) v.counts
 
 -- The view that is taken has a log that begins with the log seen.
 abbrev pub TookView : ℕ → ℕ → Seated → Seated → Type 0
@@ -72,11 +72,11 @@ tried_view st m r n = (k : ℕ) → st.word ≡ suc k → (r ≡ 0 → TookView 
 
 -- it gave the board back, of this schedule
 abbrev pub after_board : Known → List ℕ → Known
-after_board v schedule = told v None schedule v.logs (slice_set v.counts (own v) (grown (at v.counts (own v)) (length schedule - length v.seen)))
+after_board v schedule = known_with v None schedule v.logs (slice_set v.counts (own v) (grown (at v.counts (own v)) (length schedule - length v.seen)))
 
 -- it gave view k back, of this log
 abbrev pub after_view : Known → ℕ → Log → Known
-after_view v k log = told v None v.seen (slice_set v.logs k log) v.counts
+after_view v k log = known_with v None v.seen (slice_set v.logs k log) v.counts
 
 abbrev pub view_of_word : ℕ → ℕ
 view_of_word zero = 0
@@ -101,15 +101,15 @@ carried (Some w) = (w, None) ∷ []
 
 -- a pass is split: it keeps all its numbers but the greatest, and the new pass has that one
 abbrev pub without_greatest : Known → Known
-without_greatest v = told v None v.seen v.logs (without v.counts (greatest v.counts))
+without_greatest v = known_with v None v.seen v.logs (counts_without v.counts (greatest v.counts))
 
 abbrev pub greatest_alone : Known → Known
-greatest_alone v = told v None v.seen v.logs (alone v.counts (greatest v.counts))
+greatest_alone v = known_with v None v.seen v.logs (alone v.counts (greatest v.counts))
 
-abbrev pub is_start : List ℕ → List ℕ → Bool
-is_start [] ys = true
-is_start (x ∷ xs) [] = false
-is_start (x ∷ xs) (y ∷ ys) = (x == y) && is_start xs ys
+abbrev pub is_beginning : List ℕ → List ℕ → Bool
+is_beginning [] ys = true
+is_beginning (x ∷ xs) [] = false
+is_beginning (x ∷ xs) (y ∷ ys) = (x == y) && is_beginning xs ys
 
 abbrev pub longer : {X : Type 0} → List X → List X → List X
 longer {X} xs ys = if nat_le (length xs) (length ys) then ys else xs
@@ -122,23 +122,23 @@ longer_logs (x ∷ xs) (y ∷ ys) = longer x y ∷ longer_logs xs ys
 
 -- it owns nothing, which the rule shuts out
 abbrev pub shut_out : Known → Known
-shut_out v = told v None [] [] []
+shut_out v = known_with v None [] [] []
 
 abbrev pub with_both : Known → Known → List ℕ → Known
-with_both v w seen = told v None seen (longer_logs v.logs w.logs) (together v.counts w.counts)
+with_both v w seen = known_with v None seen (longer_logs v.logs w.logs) (together v.counts w.counts)
 
 -- Two passes are joined: of the two schedules seen the one begins with the other, and the longer is kept. For two that
 -- do not fit, which no table has, the pass is one that the rule shuts out.
-abbrev pub joined : Known → Known → Known
-joined v w =
-    if is_start v.seen w.seen then with_both v w w.seen
-    else if is_start w.seen v.seen then with_both v w v.seen
+abbrev pub joined_known : Known → Known → Known
+joined_known v w =
+    if is_beginning v.seen w.seen then with_both v w w.seen
+    else if is_beginning w.seen v.seen then with_both v w v.seen
     else shut_out v
 
 -- what the rule says of a pass, whatever the table is
 pub record IsConsistent (v : Known) : Type 0 where
   pub some_number : (i : ℕ) × (n : ℕ) × (at v.counts i ≡ Some n)
-  pub lawful : IsLawful (config_of v) v.seen
+  pub lawful : IsLawfulSchedule (config_of v) v.seen
   pub long : length v.counts ≡ v.setup.vcpus
   pub deep : length v.logs ≡ views_count (config_of v)
 

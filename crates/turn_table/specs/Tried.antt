@@ -29,7 +29,7 @@ pub record WentOn (v n : Known) : Type 0 where
   pub owned : (i : ℕ) → weight (at n.counts i) ≡ weight (at v.counts i)
 
 -- an accepted image of two vCPUs with a views file of one app or more
-pub record IsRun (image : Image) (setup : Setup) (groups : Groups) (profile : Views) : Type 0 where
+pub record IsRunOfTwoVcpus (image : Image) (setup : Setup) (groups : Groups) (profile : Views) : Type 0 where
   pub image_is : IsImage image
   pub setup_is : IsSetupFor image setup
   pub groups_are : groups ≡ groups_of image

@@ -1,7 +1,7 @@
 //! The rule of the table, and the names of its steps.
 
 ghost use Rattle.turn_table.specs.Rule.{IsShared, spent};
-ghost use Rattle.turn_table.specs.Steps.{first_by, opened_for, tried_board, tried_view, gave, without_greatest, greatest_alone, joined, looked};
+ghost use Rattle.turn_table.specs.Steps.{first_known_by, opened_for, tried_board, tried_view, gave, without_greatest, greatest_alone, joined_known, looked};
 
 use crate::known::{Guarded, Key, Known};
 use atomic_table::{Join, Play, Split, TableRule};
@@ -12,7 +12,7 @@ pub(crate) struct Sharing;
 impl TableRule<Option<Guarded>, Known, Key> for Sharing {
     ghost holds = { λ key. IsShared (opened_for key) };
 
-    ghost first = { first_by };
+    ghost first = { first_known_by };
 }
 
 /// Takes the board, where it is at home.
@@ -49,7 +49,7 @@ impl Split<Known> for Apart {
 pub(crate) struct Together;
 
 impl Join<Known> for Together {
-    ghost both = { joined };
+    ghost both = { joined_known };
 
     ghost spent = { spent };
 }

@@ -8,11 +8,11 @@ ghost use Rattle.guest_input.specs.Accepted.{IsImage};
 ghost use Rattle.guest_input.specs.declared.setup.Setup.{Setup};
 ghost use Rattle.view_file.specs.Fits.{IsViewsFor};
 ghost use Rattle.run_evidence.specs.Config.{Config};
-ghost use Rattle.run_evidence.specs.Growing.{views_count};
-ghost use Rattle.turn_table.specs.Rule.{config_of, logs_of};
+ghost use Rattle.run_evidence.specs.Growing.{views_count, logs_of};
+ghost use Rattle.turn_table.specs.Rule.{config_of};
 ghost use Rattle.turn_table.specs.Steps.{first_known, own};
 ghost use Rattle.turn_table.specs.Passes.{HoldsNothing, IsBeside, IsPassOf, config_in, known};
-ghost use Rattle.turn_table.specs.Tried.{IsRun, IsStepped, WentOn, fresh_views};
+ghost use Rattle.turn_table.specs.Tried.{IsRunOfTwoVcpus, IsStepped, WentOn, fresh_views};
 
 use crate::pass::{Pass, Turns};
 use fc_numbers::memory::NoMemory;
@@ -73,7 +73,7 @@ fn first_views(
 
 /// What the run is made of.
 fn fixture(alloc: Global) -> Result<Option<(Image, Setup, Table, Views)>, NoMemory>
-    ensures { IfOk result (λ o. IfSome o (λ t. IsRun t.0 t.1 t.2 t.3)) }
+    ensures { IfOk result (λ o. IfSome o (λ t. IsRunOfTwoVcpus t.0 t.1 t.2 t.3)) }
 {
     let Ok(image) = read_image(alloc, IMAGE.as_bytes()) else {
         return Ok(None)
@@ -98,7 +98,7 @@ fn open_run(
     groups: &Table,
     profile: &Views,
 ) -> Result<(Turns, Pass), NoMemory>
-    requires { IsRun image.now setup.now groups.now profile.now }
+    requires { IsRunOfTwoVcpus image.now setup.now groups.now profile.now }
     ensures { let c : Config = record { image = image.now; setup = setup.now; views = profile.now } in
         IfOk result (λ t. (config_in t.0 ≡ c) × IsPassOf t.0 t.1 × (known t.1 ≡ first_known c [] (logs_of (fresh_views c (views_count c))))) }
 {

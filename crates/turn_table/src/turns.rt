@@ -3,13 +3,13 @@
 ghost use Rattle.std.specs.Prelude.{◌≡◌, ℕ, ◌<◌, ◌≤◌, ◌+◌, ◌++◌, ◌⊎◌, [], ◌∷◌, true, false, None, Some, IfOk, MatchBool, map, length, replicate, vec_capacity};
 ghost use Rattle.std.specs.Slots.{slots_items, IsFull};
 ghost use Rattle.view_store.specs.Paged.{PagedView};
-ghost use Rattle.run_evidence.specs.Config.{Config, IsLawful};
+ghost use Rattle.run_evidence.specs.Config.{Config, IsLawfulSchedule};
 ghost use Rattle.run_evidence.specs.Evidence.{log_in};
-ghost use Rattle.run_evidence.specs.Growing.{Begins, IsAllowedFrom, board_of, paged_at, views_count};
+ghost use Rattle.run_evidence.specs.Growing.{Begins, IsAllowedFrom, board_of, paged_at, views_count, logs_of};
 ghost use Rattle.turn_table.specs.declared.known.Guarded.{Guarded};
 ghost use Rattle.turn_table.specs.Numbers.{at, times};
-ghost use Rattle.turn_table.specs.Sound.{IsEvidence, IsSound};
-ghost use Rattle.turn_table.specs.Rule.{AreViews, AreSlots, IsTruthful, config_of, logs_of, slots_of, view_slot};
+ghost use Rattle.turn_table.specs.Sound.{IsEvidence, AreSoundLogs};
+ghost use Rattle.turn_table.specs.Rule.{AreViews, AreSlots, IsTruthfulPass, config_of, slots_of, view_slot};
 ghost use Rattle.turn_table.specs.Steps.{IsConsistent, TookBoard, TookView, after_board, after_view, first_known, greatest_alone, with_board, with_view, without_greatest};
 ghost use Rattle.turn_table.specs.Calls.{HasOneMore, IsJoined, IsOwnSteps, IsUnchanged, OwnsAll, OwnsSeveral};
 ghost use Rattle.turn_table.specs.Passes.{HoldsNothing, IsBeside, IsPassOf, config_in, known};
@@ -45,7 +45,7 @@ impl Turns {
         requires board { let c : Config = record { image = image.now; setup = setup.now; views = profile.now } in board ≡ board_of c board.schedule }
         requires many { let c : Config = record { image = image.now; setup = setup.now; views = profile.now } in length views.items ≡ views_count c }
         requires each { let c : Config = record { image = image.now; setup = setup.now; views = profile.now } in AreViews c (logs_of views.items) views.items }
-        requires sound { let c : Config = record { image = image.now; setup = setup.now; views = profile.now } in IsSound c board.schedule (logs_of views.items) }
+        requires sound { let c : Config = record { image = image.now; setup = setup.now; views = profile.now } in AreSoundLogs c board.schedule (logs_of views.items) }
         ensures { let c : Config = record { image = image.now; setup = setup.now; views = profile.now } in
             IfOk result (λ t. (config_in t.0 ≡ c) × IsPassOf t.0 t.1 × (known t.1 ≡ first_known c board.schedule (logs_of views.items))) }
     {
@@ -151,7 +151,7 @@ impl Turns {
         ensures pass { known pass.new ≡ with_board (known pass.old) result.schedule }
         ensures seen { Begins (known pass.old).seen result.schedule }
         ensures board { result ≡ board_of (config_of (known pass.old)) result.schedule }
-        ensures lawful { IsLawful (config_of (known pass.old)) result.schedule }
+        ensures lawful { IsLawfulSchedule (config_of (known pass.old)) result.schedule }
         ensures evidence { (v : ℕ) → IsEvidence (config_of (known pass.old)) result.schedule v (log_in (known pass.old).logs v) }
         ensures counts { (i steps : ℕ) → at (known pass.old).counts i ≡ Some steps → steps ≡ times i result.schedule }
     {
@@ -174,7 +174,7 @@ impl Turns {
         requires same { IsPassOf self.now pass.old }
         requires taken { (known pass.old).holds ≡ Some 0 }
         requires board { board ≡ board_of (config_of (known pass.old)) board.schedule }
-        requires lawful { IsLawful (config_of (known pass.old)) board.schedule }
+        requires lawful { IsLawfulSchedule (config_of (known pass.old)) board.schedule }
         requires steps { IsOwnSteps (known pass.old) board.schedule }
         requires allowed { IsAllowedFrom (config_of (known pass.old)) (known pass.old).logs board.schedule (length (known pass.old).seen) }
         ensures same { IsBeside pass.old pass.new }
@@ -236,8 +236,8 @@ impl Turns {
         ensures board { result.0 ≡ board_of (config_in self) result.0.schedule }
         ensures many { length result.1.items ≡ views_count (config_in self) }
         ensures each { AreViews (config_in self) (logs_of result.1.items) result.1.items }
-        ensures sound { IsSound (config_in self) result.0.schedule (logs_of result.1.items) }
-        ensures pass { IsTruthful (config_in self) result.0.schedule (logs_of result.1.items) (known pass) }
+        ensures sound { AreSoundLogs (config_in self) result.0.schedule (logs_of result.1.items) }
+        ensures pass { IsTruthfulPass (config_in self) result.0.schedule (logs_of result.1.items) (known pass) }
     {
         let Turns { table, room } = self;
         let Pass { seat } = pass;

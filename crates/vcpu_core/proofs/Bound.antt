@@ -8,7 +8,7 @@ use mathlib.Core.Logic.{dite}
 use native.Mathlib.Decide.{ℕ_discrete}
 use Rattle.vcpu_core.specs.declared.lane.Went.{Went}
 use Rattle.vcpu_core.specs.declared.lane.Went.TheVariants.{Over, Stepped, Erased}
-use Rattle.vcpu_core.specs.Bound.{GoesOnAlone, OneInTenSteps, count_of}
+use Rattle.vcpu_core.specs.Bound.{GoesOnAlone, OneInTenSteps, count_of_vcpu}
 use Rattle.vcpu_core.specs.First.{first_world}
 use Rattle.vcpu_core.specs.Waits.{waits_of}
 use Rattle.vcpu_core.specs.World.{World, IsReady, erased, go_all, go_of, kept_if, lane_of, went_of}
@@ -17,19 +17,19 @@ use Rattle.vcpu_core.proofs.Kept.{IsKept, go-kept}
 use Rattle.vcpu_core.proofs.Start.{kept_of_events}
 use Rattle.vcpu_core.proofs.Waiting.{go-nearer, waits-apart, waits-most}
 
-count-own : (i : ℕ) (js : List ℕ) → count_of i (i ∷ js) ≡ 1 + count_of i js
+count-own : (i : ℕ) (js : List ℕ) → count_of_vcpu i (i ∷ js) ≡ 1 + count_of_vcpu i js
 count-own i js =
     let same : (i == i) ≡ true = grind (arith, nat_tests) in
-    sum_by-cons (λ j. cond (j == i) 1 0) i js ∙ ap (λ b. cond b 1 0 + count_of i js) same
+    sum_by-cons (λ j. cond (j == i) 1 0) i js ∙ ap (λ b. cond b 1 0 + count_of_vcpu i js) same
 
-count-apart : (i j : ℕ) (js : List ℕ) → j ≢ i → count_of i (j ∷ js) ≡ count_of i js
+count-apart : (i j : ℕ) (js : List ℕ) → j ≢ i → count_of_vcpu i (j ∷ js) ≡ count_of_vcpu i js
 count-apart i j js other =
     let apart : (j == i) ≡ false = grind (arith, nat_tests, other) in
-    sum_by-cons (λ k. cond (k == i) 1 0) j js ∙ ap (λ b. cond b 1 0 + count_of i js) apart ∙ zero-add (count_of i js)
+    sum_by-cons (λ k. cond (k == i) 1 0) j js ∙ ap (λ b. cond b 1 0 + count_of_vcpu i js) apart ∙ zero-add (count_of_vcpu i js)
 
 -- no more events are to come than the vCPU waits for, or it steps
 abbrev ComesToStep : World → ℕ → List ℕ → List ℕ → Type 0
-ComesToStep w i js steps = (count_of i js ≤ waits_of w i (lane_of w i)) ⊎ (1 ≤ count_of i steps)
+ComesToStep w i js steps = (count_of_vcpu i js ≤ waits_of w i (lane_of w i)) ⊎ (1 ≤ count_of_vcpu i steps)
 
 own-more : (w : World) (i : ℕ) (js : List ℕ) (went : Went) → went_of w i ≡ went → IsReady w → went ≢ Over → ComesToStep (go_of w i) i js (erased (go_of w i) js)
     → ComesToStep w i (i ∷ js) (kept_if went i (erased (go_of w i) js))
@@ -63,7 +63,7 @@ module _ (Holds : World → Type 0) (keeps : (w : World) (i : ℕ) → Holds w �
       (λ other. apart-more w i j js (went_of w j) refl other (alone.1 other) rest)
 
   -- among ten events one is a step
-  pub ten_come : (w : World) (i : ℕ) (js : List ℕ) → Holds w → GoesOnAlone w i js → 10 ≤ count_of i js → 1 ≤ count_of i (erased w js)
+  pub ten_come : (w : World) (i : ℕ) (js : List ℕ) → Holds w → GoesOnAlone w i js → 10 ≤ count_of_vcpu i js → 1 ≤ count_of_vcpu i (erased w js)
   ten_come w i js h alone ten = elim (comes w i js h alone) [
     | inl few ↦ absurd (omega (arith, few, ten, waits-most w i (lane_of w i)))
     | inr steps ↦ steps

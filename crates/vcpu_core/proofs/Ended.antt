@@ -11,7 +11,7 @@ use Rattle.guest_board.specs.declared.slot.Slot.{Slot}
 use Rattle.guest_board.specs.Board.{Seat, State, made_of, may, next_start, no_slot, run_from, step_of, stepped_by}
 use Rattle.guest_board.specs.First.{first_slot, first_slots, first_state}
 use Rattle.guest_board.proofs.Idle.{idle_runs_have_ended}
-use Rattle.run_evidence.specs.Config.{Config, IsConfig, IsLawful, full, rules_in}
+use Rattle.run_evidence.specs.Config.{Config, IsConfig, IsLawfulSchedule, full, rules_in}
 use Rattle.run_evidence.proofs.OneVcpu.{full-vcpus}
 use Rattle.run_evidence.proofs.Steps.{may-slot, step-is, stepped-slots}
 use Rattle.vcpu_core.specs.declared.lane.Went.TheVariants.{Over}

@@ -16,9 +16,9 @@ use Rattle.guest_board.specs.declared.seen.Verdict.{Verdict}
 use Rattle.guest_board.specs.declared.seen.Verdict.TheVariants.{Idle, Needs, Zeroes, Goes}
 use Rattle.guest_board.specs.Board.{Seat, may, name_of}
 use Rattle.guest_board.specs.Seen.{after_verdict, verdict_of}
-use Rattle.run_evidence.specs.Config.{Config, IsConfig, IsLawful, full, groups_in, rules_in}
+use Rattle.run_evidence.specs.Config.{Config, IsConfig, IsLawfulSchedule, full, image_groups, rules_in}
 use Rattle.run_evidence.specs.Evidence.{AllJustified, AreJustified, IsAllowed, log_in}
-use Rattle.run_evidence.specs.Growing.{Begins, IsAllowedFrom, board_of, paged_at}
+use Rattle.run_evidence.specs.Growing.{Begins, IsAllowedFrom, board_of, paged_at, logs_of}
 use Rattle.run_evidence.specs.Sound.{IsSoundView}
 use Rattle.run_evidence.proofs.Growing.{all_justified_later, allowed_from_stays, allowed_is_from_start}
 use Rattle.run_evidence.proofs.Stable.{all_justified-push, of_view-push, once-push}
@@ -30,7 +30,7 @@ use Rattle.vcpu_core.specs.Lanes.{after_fill, after_look, after_mend, after_turn
 use Rattle.vcpu_core.specs.Truthful.{IsTruthful}
 use Rattle.vcpu_core.specs.Turns.{AfterTurns, board_after, lane_after, turns_from, turns_of}
 use Rattle.vcpu_core.specs.Rows.{AreOfOthers, IsMended, IsNewEntry, IsPatched}
-use Rattle.vcpu_core.specs.World.{World, IsReady, IsLaneReady, erased, go_all, go_of, gone, kept_if, lane_of, logs_of, paged_in, verdict_in, view_of, went_in, went_of, windows_of, with_lane}
+use Rattle.vcpu_core.specs.World.{World, IsReady, IsLaneReady, erased, go_all, go_of, gone, kept_if, lane_of, paged_in, verdict_in, view_of, went_in, went_of, windows_of, with_lane}
 use Rattle.vcpu_core.proofs.Mended.{fill_keeps, look_keeps, mend_keeps}
 use Rattle.vcpu_core.proofs.Ready.{gone-ready, set-lane, set-paged}
 use Rattle.vcpu_core.proofs.Run.{full-texted}
@@ -42,9 +42,9 @@ use Rattle.run_evidence.proofs.Steps.{may-slot}
 pub record IsKept (c : Config) (w : World) : Type 0 where
   pub ready : IsReady w
   pub profile : w.profile ≡ c.views
-  pub groups : w.groups ≡ groups_in c
+  pub groups : w.groups ≡ image_groups c
   pub board : w.board ≡ board_of c w.board.schedule
-  pub lawful : IsLawful c w.board.schedule
+  pub lawful : IsLawfulSchedule c w.board.schedule
   pub paged_views : (v : ℕ) → v < length w.paged_views → IsSoundView c w.board.schedule v (paged_in w.paged_views v)
   pub lanes : (k : ℕ) → k < length w.lanes → IsTruthful c w.board.schedule (logs_of w.paged_views) (lane_of w k)
   pub allowed : IsAllowed c (logs_of w.paged_views) w.board.schedule
@@ -130,7 +130,7 @@ module _ (c : Config) (ok : IsConfig c) (w : World) (k : IsKept c w) (i : ℕ) (
   }
 
   -- an event after which the board is that of n more steps
-  steps-kept : (l : Lane) (n : ℕ) (b : Seat) → b ≡ board_of c (w.board.schedule ++ replicate n i) → IsLawful c (w.board.schedule ++ replicate n i)
+  steps-kept : (l : Lane) (n : ℕ) (b : Seat) → b ≡ board_of c (w.board.schedule ++ replicate n i) → IsLawfulSchedule c (w.board.schedule ++ replicate n i)
       → IsAllowed c (logs_of w.paged_views) (w.board.schedule ++ replicate n i) → IsTruthful c (w.board.schedule ++ replicate n i) (logs_of w.paged_views) l
       → IsReady (record w { board = b; lanes = slice_set w.lanes i l }) → IsKept c (record w { board = b; lanes = slice_set w.lanes i l })
   steps-kept l n b is lawful allowed new =

@@ -5,7 +5,7 @@ use Rattle.std.proofs.lemmas.Grind.{common_steps}
 use Rattle.std.proofs.lemmas.Bool.Decides.{nat_tests}
 use Rattle.fc_numbers.specs.declared.places.Span.{Span}
 use Rattle.fc_numbers.specs.declared.window.Window.{Window}
-use Rattle.function_table.specs.Groups.{Groups, group_at, groups_count, in_text, range_of}
+use Rattle.function_table.specs.Groups.{Groups, group_at, groups_count, in_groups_text, range_of}
 use Rattle.function_table.proofs.GroupLemmas.{group-below}
 use Rattle.chain_log.specs.declared.entry.LogEntry.{LogEntry}
 use Rattle.recovery.specs.declared.Looked.{Looked as Looking}
@@ -14,14 +14,14 @@ use Rattle.view_store.specs.declared.view.Patched.{Patched}
 use Rattle.view_store.specs.declared.view.Patched.TheVariants.{Recovered, WasPresent}
 use Rattle.view_store.specs.Paged.{PagedView, is_logged, is_present, logged, patched, window_of}
 use Rattle.guest_board.specs.declared.seen.Windows.{Windows}
-use Rattle.run_evidence.specs.Config.{Config, IsConfig, groups_in, full, is_base, view_in}
+use Rattle.run_evidence.specs.Config.{Config, IsConfig, image_groups, full, is_base, view_in}
 use Rattle.run_evidence.specs.Evidence.{IsJustified, log_in}
 use Rattle.run_evidence.specs.Growing.{paged_at}
 use Rattle.vcpu_core.specs.declared.lane.Lane.{Lane}
 use Rattle.vcpu_core.specs.declared.lane.Phase.{Phase}
 use Rattle.vcpu_core.specs.declared.lane.Phase.TheVariants.{Running, Wants, Trapped, Looked}
-use Rattle.vcpu_core.specs.Lanes.{IsLooked, IsTrapped, IsWanting, after_mend, fill_row, filled, look_row, mend_answer, mend_row, mend_view, mended, with_newest}
-use Rattle.vcpu_core.specs.Placed.{IsPlaced}
+use Rattle.vcpu_core.specs.Lanes.{IsLooked, IsTrapped, IsWanting, after_mend, fill_row, windows_with_line, look_row, mend_answer, mend_row, mend_view, mended, with_newest}
+use Rattle.vcpu_core.specs.Placed.{IsPlacedPhase}
 use Rattle.vcpu_core.specs.Truthful.{AllTaken, AreTruthful, IsClearedBy, IsKeptTrap, IsOfView, IsTaken, IsTruePhase, IsTruthful}
 use Rattle.vcpu_core.specs.Rows.{FillKeeps, IsMended, IsNewEntry, IsPatched, LookKeeps, MendKeeps}
 use Rattle.vcpu_core.proofs.Truth.{begins-itself}
@@ -48,7 +48,7 @@ unfolding window_of
 window-line p n = refl
 
 -- the windows after a fill, from the view with this log
-pub filled-truthful : (c : Config) (p : PagedView) (log : List LogEntry) (n : ℕ) (w : Windows) → p ≡ paged_at c w.view log → AreTruthful c log w → AreTruthful c log (filled p n w)
+pub filled-truthful : (c : Config) (p : PagedView) (log : List LogEntry) (n : ℕ) (w : Windows) → p ≡ paged_at c w.view log → AreTruthful c log w → AreTruthful c log (windows_with_line p n w)
 filled-truthful c p log n w is k = record {
   held = taken-newest c w.view log w.cleared w.held.items (window_of p n) k.held (record {
     seen = log;
@@ -89,7 +89,7 @@ new-present : (base : List Bool) (log : List LogEntry) (e : LogEntry) → is_pre
 new-present base log e = grind (arith, common_steps, nat_tests)
 
 -- the lane after a mend, where its group is present in the view with the log that is now the view's
-mended-lane : (c : Config) (h : List ℕ) (logs : List (List LogEntry)) (l : Lane) (groups : Groups) (g : ℕ) → groups ≡ groups_in c → g < groups_count (groups_in c)
+mended-lane : (c : Config) (h : List ℕ) (logs : List (List LogEntry)) (l : Lane) (groups : Groups) (g : ℕ) → groups ≡ image_groups c → g < groups_count (image_groups c)
     → is_present (paged_at c l.windows.view (log_in logs l.windows.view)).base (log_in logs l.windows.view) g ≡ true → IsTruthful c h logs (after_mend groups g l)
 mended-lane c h logs l groups g same within here = record {
   windows = record { held = tt; cleared = record { group = g; range = ap (λ (t : Groups). range_of t g) same; within = within; present = here } };
@@ -103,8 +103,8 @@ moved-present base base' log log' g g' a b d e =
 
 module _ (p : PagedView) (groups : Groups) (l : Lane) (same_groups : p.groups ≡ groups) (c : Config) (h : List ℕ) (logs : List (List LogEntry))
     (view : p ≡ paged_at c l.windows.view (log_in logs l.windows.view)) (x : Looking) (trap : IsKeptTrap c h l x.entry.view x.entry.vcpu x.entry.at x.entry.pc x.entry.chain.items)
-    (group : x.group ≡ x.entry.group) (at : x.entry.group ≡ group_at (groups_in c) x.entry.pc) where
-  base-is : p.base ≡ base_of c.views (groups_in c) l.windows.view
+    (group : x.group ≡ x.entry.group) (at : x.entry.group ≡ group_at (image_groups c) x.entry.pc) where
+  base-is : p.base ≡ base_of c.views (image_groups c) l.windows.view
   base-is = ap (λ (q : PagedView). q.base) view
 
   number-is : p.number ≡ l.windows.view
@@ -114,8 +114,8 @@ module _ (p : PagedView) (groups : Groups) (l : Lane) (same_groups : p.groups �
   lane-after log more same here =
       let mine : log_in more l.windows.view ≡ log = subst (λ u. log_in more u ≡ log) number-is same in
       mended-lane c h more l groups x.group (sym same_groups ∙ ap (λ (q : PagedView). q.groups) view)
-      (let below : group_at (groups_in c) x.entry.pc < groups_count (groups_in c) = group-below (groups_in c) x.entry.pc in omega (arith, group, at, below))
-      (moved-present p.base (base_of c.views (groups_in c) l.windows.view) log (log_in more l.windows.view) x.entry.group x.group base-is (sym mine) (sym group) here)
+      (let below : group_at (image_groups c) x.entry.pc < groups_count (image_groups c) = group-below (image_groups c) x.entry.pc in omega (arith, group, at, below))
+      (moved-present p.base (base_of c.views (image_groups c) l.windows.view) log (log_in more l.windows.view) x.entry.group x.group base-is (sym mine) (sym group) here)
 
   by-answer : (b : Bool) → is_present p.base p.log x.entry.group ≡ b → IsMended c h p (if b then p else logged p x.entry) (after_mend groups x.group l) (if b then WasPresent else Recovered)
   by-answer true here = record { view = refl; truthful = λ more same. lane-after p.log more same here }
@@ -156,6 +156,6 @@ mend_keeps p p' groups l l' did looks same_groups view_is lane_is did_is c h log
     by-phase (Wants n) e k = absurd k
     by-phase (Trapped t) e k = absurd k
     by-phase (Looked x) e k =
-        let kept : IsKeptTrap c h l x.entry.view x.entry.vcpu x.entry.at x.entry.pc x.entry.chain.items × (x.group ≡ x.entry.group) × (x.entry.group ≡ group_at (groups_in c) x.entry.pc) =
+        let kept : IsKeptTrap c h l x.entry.view x.entry.vcpu x.entry.at x.entry.pc x.entry.chain.items × (x.group ≡ x.entry.group) × (x.entry.group ≡ group_at (image_groups c) x.entry.pc) =
         subst (λ y. IsTruePhase c h l y) e truthful.phase in
         by-answer p groups l same_groups c h logs view x kept.0 kept.1 kept.2 (is_present p.base p.log x.entry.group) refl

@@ -18,8 +18,8 @@ use Rattle.vcpu_core.specs.declared.lane.Phase.{Phase}
 use Rattle.vcpu_core.specs.declared.lane.Phase.TheVariants.{Running, Wants, Trapped, Looked}
 use Rattle.vcpu_core.specs.Lanes.{in_phase, after_fill, after_look, after_mend}
 use Rattle.vcpu_core.specs.First.{first_world, first_lane, first_lanes}
-use Rattle.vcpu_core.specs.World.{World, gone, go_of, go_all, erased, lane_of, paged_in, blank_lane, logs_of, windows_of, verdict_in, with_lane, after_event}
-use Rattle.run_evidence.specs.Growing.{views_count}
+use Rattle.vcpu_core.specs.World.{World, gone, go_of, go_all, erased, lane_of, paged_in, blank_lane, windows_of, verdict_in, with_lane, after_event}
+use Rattle.run_evidence.specs.Growing.{logs_of, views_count}
 use Rattle.run_evidence.specs.Sound.{IsSoundView}
 use Rattle.vcpu_core.specs.Sound.{IsSound}
 use Rattle.vcpu_core.specs.Missed.{HasEnded, EachLogsItsMisses, first_view, FirstLogsAllMisses}

@@ -10,7 +10,7 @@ use Rattle.fc_numbers.specs.declared.places.TheConstants.{RAM_START}
 use Rattle.fc_numbers.specs.Spans.{offset_in, text_size}
 use Rattle.fc_numbers.specs.Spans as spans
 use Rattle.fc_numbers.proofs.TextLaws.{offset_below}
-use Rattle.function_table.specs.Groups.{in_text}
+use Rattle.function_table.specs.Groups.{in_groups_text}
 use Rattle.function_table.proofs.GroupLemmas.{group-below}
 use Rattle.chain_log.specs.declared.entry.LogEntry.{LogEntry}
 use Rattle.guest_ram.specs.Ram.{IsLaid, is_text}
@@ -30,7 +30,7 @@ use Rattle.vcpu_core.specs.declared.lane.Lane.{Lane}
 use Rattle.vcpu_core.specs.declared.lane.Phase.{Phase}
 use Rattle.vcpu_core.specs.declared.lane.Phase.TheVariants.{Running, Wants, Trapped, Looked}
 use Rattle.vcpu_core.specs.Lanes.{after_fill, after_look, after_mend, in_phase}
-use Rattle.vcpu_core.specs.Placed.{IsPlaced}
+use Rattle.vcpu_core.specs.Placed.{IsPlacedPhase}
 use Rattle.vcpu_core.specs.Truthful.{IsOfView}
 use Rattle.vcpu_core.specs.World.{World, IsReady, IsLaneReady, IsPagedReady, after_event, blank_lane, blank_paged, gone, lane_of, paged_in, view_of, windows_of, with_lane}
 use Rattle.vcpu_core.proofs.Turned.{seated-view}
@@ -112,14 +112,14 @@ patched-ready w i v l p r paged new = record {
 }
 
 -- a place of text, by the groups
-pub text-in : (w : World) → IsReady w → (p : ℕ) → is_text w.board.state.ram p ≡ true → in_text w.groups p ≡ true
+pub text-in : (w : World) → IsReady w → (p : ℕ) → is_text w.board.state.ram p ≡ true → in_groups_text w.groups p ≡ true
 text-in w r p e = subst (λ t. spans.in_text t p ≡ true) r.text e
 
-pub next-in : (w : World) (i : ℕ) → IsReady w → (p : ℕ) → next_of w.board.state i ≡ Some p → in_text w.groups p ≡ true
+pub next-in : (w : World) (i : ℕ) → IsReady w → (p : ℕ) → next_of w.board.state i ≡ Some p → in_groups_text w.groups p ≡ true
 next-in w i r p e = text-in w r p (next-text w.board.state i p e)
 
 -- the line of a place of text is one of text
-pub line-in : (w : World) → IsReady w → (n p : ℕ) → n ≡ line_no w.board.state.ram.text p → in_text w.groups p ≡ true → 64 * n < text_size w.groups.text
+pub line-in : (w : World) → IsReady w → (n p : ℕ) → n ≡ line_no w.board.state.ram.text p → in_groups_text w.groups p ≡ true → 64 * n < text_size w.groups.text
 line-in w r n p number inside =
     let below : offset_in w.groups.text p < text_size w.groups.text = offset_below w.groups.text RAM_START p r.groups.text.ranges inside in
     let same : n ≡ line_no w.groups.text p = subst (λ t. n ≡ line_no t p) r.text number in
@@ -129,7 +129,7 @@ pub windows-view : (w : World) (i : ℕ) (l : Lane) → (windows_of w i l).view 
 windows-view w i l = seated-view (view_of w i) l.windows
 
 -- the view of a name is one of the views
-view-below : (apps : List Rattle.view_file.specs.declared.views.App.App) (name : List ℕ) (o : Option ℕ) → Rattle.view_file.specs.Named.position_of name apps ≡ o → Rattle.view_file.specs.Named.view_at o < length apps + 1
+view-below : (apps : List Rattle.view_file.specs.declared.views.App.App) (name : List ℕ) (o : Option ℕ) → Rattle.view_file.specs.Named.position_of name apps ≡ o → Rattle.view_file.specs.Named.view_of_position o < length apps + 1
 view-below apps name None e = omega arith
 view-below apps name (Some at) e = let h : at < length apps = (position-Some _ apps at (record { name = []; functions = [] }) e).0 in omega (arith, h)
 
@@ -147,7 +147,7 @@ unfolding after_verdict
 turned-ready w i l Idle r laid lane e = absurd (start-busy w.board.state.ram.text (windows_of w i l) (next_start w.board.state i) e)
 turned-ready w i l (Needs n) r laid lane e =
     let need : IsNeed w.board.state.ram.text (windows_of w i l) n (next_start w.board.state i) = start-needs w.board.state.ram.text (windows_of w i l) (next_start w.board.state i) n e in
-    let inside : in_text w.groups need.place ≡ true = next-in w i r need.place (next-is w.board.state i ∙ need.next) in
+    let inside : in_groups_text w.groups need.place ≡ true = next-in w i r need.place (next-is w.board.state i ∙ need.next) in
     with_lane-ready w i (in_phase l (windows_of w i l) (Wants n)) r (record {
       number = lane.number;
       view = rw (windows-view w i l) (view-inside w i r);
@@ -157,7 +157,7 @@ turned-ready w i l (Needs n) r laid lane e =
 turned-ready w i l (Zeroes p) r laid lane e =
     let zero : (place_of (next_start w.board.state i) ≡ Some p) × IsZero w.board.state.ram.text (windows_of w i l) p =
     start-zeroes w.board.state.ram.text (windows_of w i l) (next_start w.board.state i) p e in
-    let inside : in_text w.groups p ≡ true = next-in w i r p (next-is w.board.state i ∙ zero.0) in
+    let inside : in_groups_text w.groups p ≡ true = next-in w i r p (next-is w.board.state i ∙ zero.0) in
     with_lane-ready w i (in_phase l (windows_of w i l) (Trapped (trapped_at w.board.state i (windows_of w i l).view p))) r (record {
       number = lane.number;
       view = rw (windows-view w i l) (view-inside w i r);
@@ -191,7 +191,7 @@ gone-ready w i l Running m r laid lane e =
 gone-ready w i l (Wants n) m r laid lane e =
     with_lane-ready w i (after_fill (paged_in w.paged_views l.windows.view) n l) r (record { number = lane.number; view = lane.view; placed = tt; has_view = tt })
 gone-ready w i l (Trapped t) m r laid lane e =
-    let placed : (t.view ≡ l.windows.view) × (in_text w.groups t.pc ≡ true) = subst (λ x. IsPlaced w.groups l x) e lane.placed in
+    let placed : (t.view ≡ l.windows.view) × (in_groups_text w.groups t.pc ≡ true) = subst (λ x. IsPlacedPhase w.groups l x) e lane.placed in
     let has : l.windows.view ≡ view_of w i = subst (λ x. IsOfView (view_of w i) l x) e lane.has_view in
     with_lane-ready w i (after_look w.groups t l) r (record { number = lane.number; view = lane.view; placed = (placed.0, group-below w.groups t.pc, refl); has_view = has })
 gone-ready w i l (Looked k) m r laid lane e =

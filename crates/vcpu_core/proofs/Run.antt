@@ -19,7 +19,7 @@ use Rattle.guest_board.specs.Board.{State, next_start, run_from, step_of}
 use Rattle.guest_board.specs.First.{first_state, first_ram, with_parts, text_of, text_parts}
 use Rattle.guest_board.specs.OpenFacts.{LieBelow}
 use Rattle.guest_board.proofs.Parts.{lie_below}
-use Rattle.run_evidence.specs.Config.{Config, IsConfig, full, groups_in, rules_in}
+use Rattle.run_evidence.specs.Config.{Config, IsConfig, full, image_groups, rules_in}
 use Rattle.run_evidence.proofs.Steps.{step-is, step-keeps, step-laid, stepped-clock}
 use Rattle.vcpu_core.specs.Rows.{StagesServe}
 use Rattle.vcpu_core.specs.Stages.{IsStageFor}
@@ -188,13 +188,13 @@ run-texted rules s (i ∷ is) ranges text k =
       has = has-text-kept s.ram (step_of rules s i).ram ranges text (step-keeps rules s i k.laid) k.has;
     })
 
-first-texted : (c : Config) → IsConfig c → IsTextedRam (first_state c.image c.setup).ram (groups_in c).text (bytes_of c.image.ranges)
+first-texted : (c : Config) → IsConfig c → IsTextedRam (first_state c.image c.setup).ram (image_groups c).text (bytes_of c.image.ranges)
 unfolding first_state
 first-texted c ok = record { laid = (first-memory c ok).0; has = (first-memory c ok).1 }
 
 -- after any schedule
-pub full-texted : (c : Config) (schedule : List ℕ) → IsConfig c → IsTextedRam (full c schedule).ram (groups_in c).text (bytes_of c.image.ranges)
-full-texted c schedule ok = run-texted (rules_in c) (first_state c.image c.setup) schedule (groups_in c).text (bytes_of c.image.ranges) (first-texted c ok)
+pub full-texted : (c : Config) (schedule : List ℕ) → IsConfig c → IsTextedRam (full c schedule).ram (image_groups c).text (bytes_of c.image.ranges)
+full-texted c schedule ok = run-texted (rules_in c) (first_state c.image c.setup) schedule (image_groups c).text (bytes_of c.image.ranges) (first-texted c ok)
 
 run-clock : (rules : Rules) (s : State) (schedule : List ℕ) → (run_from rules s schedule).clock ≡ s.clock + length schedule
 run-clock rules s [] = omega arith

@@ -10,8 +10,8 @@ use Rattle.chain_log.specs.declared.entry.LogEntry.{LogEntry}
 use Rattle.function_table.specs.Groups.{group_at}
 use Rattle.view_store.specs.Paged.{PagedView}
 use Rattle.guest_board.specs.Board.{may, next_of}
-use Rattle.run_evidence.specs.Config.{Config, IsConfig, IsLawful, full, full_at, groups_in, is_base, rules_in, view_at}
-use Rattle.run_evidence.specs.Evidence.{AllJustified, AllOfView, IsAllowed, IsJustified, IsOnce, is_logged, log_in}
+use Rattle.run_evidence.specs.Config.{Config, IsConfig, IsLawfulSchedule, full, full_at, image_groups, is_base, rules_in, view_at}
+use Rattle.run_evidence.specs.Evidence.{AllJustified, AllOfView, IsAllowed, IsJustified, IsOnce, is_logged_at, log_in}
 use Rattle.run_evidence.specs.Misses.{misses_under, steps_of}
 use Rattle.run_evidence.specs.Sound.{IsSoundView}
 use Rattle.run_evidence.proofs.Logged.{AllFrom, AllOfSteps, AreOrdered, IsOfStep, log-is-misses}
@@ -20,7 +20,8 @@ use Rattle.run_evidence.proofs.Steps.{may-slot}
 use Rattle.vcpu_core.specs.First.{first_world}
 use Rattle.vcpu_core.specs.Missed.{EachLogsMissesSoFar, LogsMissesSoFar}
 use Rattle.vcpu_core.specs.Sound.{IsSound}
-use Rattle.vcpu_core.specs.World.{erased, go_all, logs_of, paged_in}
+use Rattle.vcpu_core.specs.World.{erased, go_all, paged_in}
+use Rattle.run_evidence.specs.Growing.{logs_of}
 use Rattle.vcpu_core.proofs.Kept.{log-of}
 use Rattle.vcpu_core.proofs.OneVcpu.{in_order}
 use Rattle.vcpu_core.proofs.Start.{sound_of_events}
@@ -69,11 +70,11 @@ steps-front [] e = refl
 steps-front (x ∷ xs) e = ap (λ (ts : List ℕ). x.at ∷ ts) (steps-front xs e)
 
 -- a later entry does not log a group for an earlier step
-logged-front : (front : List LogEntry) (e : LogEntry) (t g : ℕ) → t < e.at → is_logged (front ++ e ∷ []) t g ≡ is_logged front t g
+logged-front : (front : List LogEntry) (e : LogEntry) (t g : ℕ) → t < e.at → is_logged_at (front ++ e ∷ []) t g ≡ is_logged_at front t g
 logged-front [] e t g later = grind (arith, nat_tests, later)
 logged-front (x ∷ xs) e t g later = ap (λ b. ((x.group == g) && nat_le x.at t) || b) (logged-front xs e t g later)
 
-module _ (c : Config) (one : c.setup.vcpus ≡ 1) (h : List ℕ) (lawful : IsLawful c h) where
+module _ (c : Config) (one : c.setup.vcpus ≡ 1) (h : List ℕ) (lawful : IsLawfulSchedule c h) where
   alone : (schedule : List ℕ) (i : ℕ) → may (rules_in c) (full c schedule) i ≡ true → i ≡ 0
   alone schedule i m = omega (arith, may-slot (rules_in c) (full c schedule) i m, full-vcpus c schedule, one)
 
@@ -94,7 +95,7 @@ module _ (c : Config) (one : c.setup.vcpus ≡ 1) (h : List ℕ) (lawful : IsLaw
       let here : next_of (full_at c h (length h)) 0 ≡ Some e.pc = next-now e now j in
       let there : next_of (full_at c h (length h)) 0 ≡ Some x.pc = next-now x then k in
       let same : x.pc ≡ e.pc = cc in
-      k.group ∙ ap (λ p. group_at (groups_in c) p) same ∙ sym j.group
+      k.group ∙ ap (λ p. group_at (image_groups c) p) same ∙ sym j.group
 
   -- entries of steps that were made, and one of this moment
   record HasLast (log : List LogEntry) : Type 0 where
@@ -144,16 +145,16 @@ module _ (c : Config) (h : List ℕ) (logs : List (List LogEntry)) (v : ℕ) (fr
   front-log : log_in (slice_set logs v front) v ≡ front
   front-log = get_or-set_same logs v front [] inside
 
-  same-logged : (u t g : ℕ) → t < length h → is_logged (log_in (slice_set logs v front) u) t g ≡ is_logged (log_in logs u) t g
+  same-logged : (u t g : ℕ) → t < length h → is_logged_at (log_in (slice_set logs v front) u) t g ≡ is_logged_at (log_in logs u) t g
   same-logged u t g within =
       dite (ℕ_discrete u v)
-      (λ same. subst (λ w. is_logged (log_in (slice_set logs v front) w) t g ≡ is_logged (log_in logs w) t g) (sym same)
-      (ap (λ (l : List LogEntry). is_logged l t g) front-log ∙ sym (logged-front front e t g (omega (arith, now, within))) ∙ ap (λ (l : List LogEntry). is_logged l t g) (sym here)))
-      (λ other. ap (λ (l : List LogEntry). is_logged l t g) (get_or-set_other logs v u front [] other))
+      (λ same. subst (λ w. is_logged_at (log_in (slice_set logs v front) w) t g ≡ is_logged_at (log_in logs w) t g) (sym same)
+      (ap (λ (l : List LogEntry). is_logged_at l t g) front-log ∙ sym (logged-front front e t g (omega (arith, now, within))) ∙ ap (λ (l : List LogEntry). is_logged_at l t g) (sym here)))
+      (λ other. ap (λ (l : List LogEntry). is_logged_at l t g) (get_or-set_other logs v u front [] other))
 
   front-allowed : IsAllowed c logs h → IsAllowed c (slice_set logs v front) h
   front-allowed allowed t p within next =
-      ap (λ b. is_base c (view_at c h t) (group_at (groups_in c) p) || b) (same-logged (view_at c h t) t (group_at (groups_in c) p) within) ∙ allowed t p within next
+      ap (λ b. is_base c (view_at c h t) (group_at (image_groups c) p) || b) (same-logged (view_at c h t) t (group_at (image_groups c) p) within) ∙ allowed t p within next
 
   front-misses : IsAllowed c logs h → AllJustified c h (front ++ e ∷ []) → AllOfView v (front ++ e ∷ []) → IsOnce (front ++ e ∷ []) → AllOfSteps h front → AreOrdered (front ++ e ∷ [])
       → steps_of (front ++ e ∷ []) ≡ misses_under c h v ++ length h ∷ []
@@ -163,7 +164,7 @@ module _ (c : Config) (h : List ℕ) (logs : List (List LogEntry)) (v : ℕ) (fr
       (ordered-front front e ordered) in
       steps-front front e ∙ ap (λ (ts : List ℕ). ts ++ e.at ∷ []) those ∙ ap (λ n. misses_under c h v ++ n ∷ []) now
 
-so-far : (c : Config) (h : List ℕ) (logs : List (List LogEntry)) (v : ℕ) (log : List LogEntry) → c.setup.vcpus ≡ 1 → IsLawful c h → v < length logs → log_in logs v ≡ log → IsAllowed c logs h
+so-far : (c : Config) (h : List ℕ) (logs : List (List LogEntry)) (v : ℕ) (log : List LogEntry) → c.setup.vcpus ≡ 1 → IsLawfulSchedule c h → v < length logs → log_in logs v ≡ log → IsAllowed c logs h
     → AllJustified c h log → AllOfView v log → IsOnce log → AreOrdered log → LogsMissesSoFar c log h v
 so-far c h logs v log one lawful inside here allowed just of_view once ordered = elim (split c one h lawful log ordered just once) [
   | inl steps ↦ inl (log-is-misses c h logs v log here allowed just of_view once steps ordered)

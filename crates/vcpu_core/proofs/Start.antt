@@ -7,15 +7,15 @@ use Rattle.view_file.specs.declared.views.Views.{Views}
 use Rattle.view_file.specs.Named.{view_named}
 use Rattle.guest_board.specs.Board.{Seat as Seating}
 use Rattle.guest_board.specs.First.{first_slot, first_slots, first_state}
-use Rattle.run_evidence.specs.Config.{Config, IsConfig, IsLawful, full, groups_in}
+use Rattle.run_evidence.specs.Config.{Config, IsConfig, IsLawfulSchedule, full, image_groups}
 use Rattle.run_evidence.specs.Evidence.{IsAllowed}
-use Rattle.run_evidence.specs.Growing.{board_of, views_count}
+use Rattle.run_evidence.specs.Growing.{board_of, views_count, logs_of}
 use Rattle.run_evidence.specs.Sound.{IsSoundView}
 use Rattle.run_evidence.proofs.OneVcpu.{full-vcpus}
 use Rattle.vcpu_core.specs.First.{first_lane, first_lanes, first_paged, first_paged_views, first_world}
 use Rattle.vcpu_core.specs.Sound.{HasTruthfulLane, HasTruthfulLanes, IsSound}
 use Rattle.vcpu_core.specs.Truthful.{IsTruthful}
-use Rattle.vcpu_core.specs.World.{World, IsReady, blank_lane, blank_paged, erased, go_all, lane_of, logs_of, paged_in}
+use Rattle.vcpu_core.specs.World.{World, IsReady, blank_lane, blank_paged, erased, go_all, lane_of, paged_in}
 use Rattle.vcpu_core.proofs.Kept.{IsKept, go_all-kept, go_all-schedule}
 use Rattle.vcpu_core.proofs.Ready.{named-below}
 use Rattle.vcpu_core.proofs.Run.{full-texted}
@@ -81,7 +81,7 @@ first-profile : (c : Config) → (first_world c).profile ≡ c.views
 unfolding first_world
 first-profile c = refl
 
-first-groups : (c : Config) → (first_world c).groups ≡ groups_in c
+first-groups : (c : Config) → (first_world c).groups ≡ image_groups c
 unfolding first_world
 first-groups c = refl
 
@@ -111,7 +111,7 @@ module _ (c : Config) (ok : IsConfig c) (is : List ℕ) where
       let same : (go_all (first_world c) is).board.schedule ≡ erased (first_world c) is = schedule_of_events in
       record {
         schedule = same;
-        lawful = subst (λ h. IsLawful c h) same k.lawful;
+        lawful = subst (λ h. IsLawfulSchedule c h) same k.lawful;
         state = ap (λ (b : Seating). b.state) k.board ∙ ap (λ h. full c h) same;
         numbered = k.ready.views ∙ ap (λ (x : Views). length x.apps + 1) k.profile;
         views = λ v h. subst (λ s. IsSoundView c s v (paged_in (go_all (first_world c) is).paged_views v)) same (k.paged_views v h);

@@ -6,7 +6,7 @@ use Rattle.function_table.specs.Groups.{group_at, groups_count}
 use Rattle.view_file.specs.Named.{view_named}
 use Rattle.guest_board.specs.declared.rules.Rules.{Rules}
 use Rattle.guest_board.specs.Board.{State, name_of, next_start, run_from, step_of}
-use Rattle.run_evidence.specs.Config.{Config, full, full_at, groups_in, rules_in, view_in}
+use Rattle.run_evidence.specs.Config.{Config, full, full_at, image_groups, rules_in, view_in}
 use Rattle.run_evidence.specs.Evidence.{log_in}
 use Rattle.run_evidence.specs.Growing.{Begins}
 use Rattle.run_evidence.proofs.Growing.{full_at-front, runs_append}
@@ -14,7 +14,7 @@ use Rattle.run_evidence.proofs.Steps.{other-name, step-is}
 use Rattle.vcpu_core.specs.declared.lane.Lane.{Lane}
 use Rattle.vcpu_core.specs.declared.lane.Phase.{Phase}
 use Rattle.vcpu_core.specs.declared.lane.Phase.TheVariants.{Running, Wants, Trapped, Looked}
-use Rattle.vcpu_core.specs.Placed.{IsPlaced}
+use Rattle.vcpu_core.specs.Placed.{IsPlacedPhase}
 use Rattle.vcpu_core.specs.Truthful.{IsKeptTrap, IsOfView, IsTrapOf, IsTruePhase, IsTruthful}
 use Rattle.vcpu_core.specs.Rows.{AreOfOthers, TruthfulLanesStay, TruthfulLanesArePlaced}
 use Rattle.vcpu_core.proofs.Truth.{truthful-longer}
@@ -58,13 +58,13 @@ truthful_lanes_stay c h later logs more l others grown k = record {
   view = subst (λ v. IsOfView v l l.phase) (sym (view-other c h later l.vcpu others)) k.view;
 }
 
-placed-phase : (c : Config) (h : List ℕ) (l : Lane) (phase : Phase) → IsTruePhase c h l phase → IsPlaced (groups_in c) l phase
+placed-phase : (c : Config) (h : List ℕ) (l : Lane) (phase : Phase) → IsTruePhase c h l phase → IsPlacedPhase (image_groups c) l phase
 placed-phase c h l Running k = tt
 placed-phase c h l (Wants n) k = k
 placed-phase c h l (Trapped t) k = (k.of_view, k.trap.inside)
 placed-phase c h l (Looked x) k = (
   k.0.of_view,
-  (let below : group_at (groups_in c) x.entry.pc < groups_count (groups_in c) = group-below (groups_in c) x.entry.pc in omega (arith, below, k.1, k.2)),
+  (let below : group_at (image_groups c) x.entry.pc < groups_count (image_groups c) = group-below (image_groups c) x.entry.pc in omega (arith, below, k.1, k.2)),
   sym k.1,
 )
 

@@ -25,7 +25,7 @@ use Rattle.guest_board.specs.declared.step.StepStart.{StepStart}
 use Rattle.guest_board.specs.Fetch.{text_place, place_if, with_halves, half_at}
 use Rattle.guest_board.specs.Seen.{half_in_line, line_no, is_cleared, window_at}
 use Rattle.guest_board.proofs.Places.{HalvesAre, IsBehind}
-use Rattle.run_evidence.specs.Config.{Config, IsConfig, groups_in}
+use Rattle.run_evidence.specs.Config.{Config, IsConfig, image_groups}
 use Rattle.run_evidence.specs.Growing.{Begins, paged_at}
 use Rattle.vcpu_core.specs.Truthful.{AllTaken, AreTruthful, IsClearedBy, IsRangeOfPresent, IsTaken}
 use Rattle.vcpu_core.proofs.Verdicts.{IsRead, first_in, second_in}
@@ -242,63 +242,63 @@ cleared-present p (Some s) q n good k inside half absent =
     rw k.range (other ∙ apart (group_at p.groups q) k.group not_it)
 
 module _ (c : Config) (ok : IsConfig c) where
-  good : IsGroups (groups_in c)
+  good : IsGroups (image_groups c)
   good = groups-good c.image ok.image
 
   -- the halfwords of a window at a place of text and behind it are those of the mask
-  window-first : (v : ℕ) (seen : List LogEntry) (p : ℕ) (w : Window) → in_text (groups_in c).text p ≡ true → w.line ≡ line_no (groups_in c).text p → w ≡ window_of (paged_at c v seen) w.line
-      → first_in (groups_in c).text p w ≡ masked (paged_at c v seen) (half_no (groups_in c).text p)
+  window-first : (v : ℕ) (seen : List LogEntry) (p : ℕ) (w : Window) → in_text (image_groups c).text p ≡ true → w.line ≡ line_no (image_groups c).text p → w ≡ window_of (paged_at c v seen) w.line
+      → first_in (image_groups c).text p w ≡ masked (paged_at c v seen) (half_no (image_groups c).text p)
   window-first v seen p w inside line is =
-      let text : List Span = (groups_in c).text in
-      let below : offset_in (groups_in c).text p < text_size (groups_in c).text = offset_below (groups_in c).text RAM_START p good.text.ranges inside in
-      let at : w ≡ window_of (paged_at c v seen) (line_no (groups_in c).text p) = is ∙ ap (λ n. window_of (paged_at c v seen) n) line in
-      ap (λ (x : Window). slice_index x.halves (half_in_line (groups_in c).text p)) at
-      ∙ windows_are_of_the_mask (paged_at c v seen) (line_no (groups_in c).text p) (half_in_line (groups_in c).text p) good ok.image.text.long (omega (arith, below)) (omega arith) (λ e. absurd (omega (arith, e)))
-      ∙ ap (λ n. masked (paged_at c v seen) n) (line-half (groups_in c).text p)
+      let text : List Span = (image_groups c).text in
+      let below : offset_in (image_groups c).text p < text_size (image_groups c).text = offset_below (image_groups c).text RAM_START p good.text.ranges inside in
+      let at : w ≡ window_of (paged_at c v seen) (line_no (image_groups c).text p) = is ∙ ap (λ n. window_of (paged_at c v seen) n) line in
+      ap (λ (x : Window). slice_index x.halves (half_in_line (image_groups c).text p)) at
+      ∙ windows_are_of_the_mask (paged_at c v seen) (line_no (image_groups c).text p) (half_in_line (image_groups c).text p) good ok.image.text.long (omega (arith, below)) (omega arith) (λ e. absurd (omega (arith, e)))
+      ∙ ap (λ n. masked (paged_at c v seen) n) (line-half (image_groups c).text p)
 
-  window-second : (v : ℕ) (seen : List LogEntry) (p : ℕ) (w : Window) → in_text (groups_in c).text p ≡ true → w.line ≡ line_no (groups_in c).text p → w ≡ window_of (paged_at c v seen) w.line
-      → 2 * (half_no (groups_in c).text p + 1) < end_in (groups_in c).text (2 * half_no (groups_in c).text p)
-      → second_in (groups_in c).text p w ≡ masked (paged_at c v seen) (half_no (groups_in c).text p + 1)
+  window-second : (v : ℕ) (seen : List LogEntry) (p : ℕ) (w : Window) → in_text (image_groups c).text p ≡ true → w.line ≡ line_no (image_groups c).text p → w ≡ window_of (paged_at c v seen) w.line
+      → 2 * (half_no (image_groups c).text p + 1) < end_in (image_groups c).text (2 * half_no (image_groups c).text p)
+      → second_in (image_groups c).text p w ≡ masked (paged_at c v seen) (half_no (image_groups c).text p + 1)
   window-second v seen p w inside line is more =
-      let below : offset_in (groups_in c).text p < text_size (groups_in c).text = offset_below (groups_in c).text RAM_START p good.text.ranges inside in
-      let at : w ≡ window_of (paged_at c v seen) (line_no (groups_in c).text p) = is ∙ ap (λ n. window_of (paged_at c v seen) n) line in
-      let half : 32 * line_no (groups_in c).text p + half_in_line (groups_in c).text p ≡ half_no (groups_in c).text p = line-half (groups_in c).text p in
-      let near = end_near (groups_in c).text RAM_START (64 * line_no (groups_in c).text p) good.text.ranges (omega (arith, below)) in
-      let pages : end_in (groups_in c).text (64 * line_no (groups_in c).text p) % 4096 ≡ 0 = end-pages (groups_in c).text RAM_START (64 * line_no (groups_in c).text p) good.text.ranges (omega (arith, below)) in
-      let low : half_in_line (groups_in c).text p < 32 = omega arith in
-      let same : end_in (groups_in c).text (64 * line_no (groups_in c).text p + 2 * half_in_line (groups_in c).text p) ≡ end_in (groups_in c).text (64 * line_no (groups_in c).text p) =
-      end-within (groups_in c).text (64 * line_no (groups_in c).text p) (2 * half_in_line (groups_in c).text p) (omega (arith, near.0, pages, low)) in
-      let place : 64 * line_no (groups_in c).text p + 2 * half_in_line (groups_in c).text p ≡ 2 * half_no (groups_in c).text p = omega (arith, half) in
-      let end : end_in (groups_in c).text (2 * half_no (groups_in c).text p) ≡ end_in (groups_in c).text (64 * line_no (groups_in c).text p) = ap (λ n. end_in (groups_in c).text n) (sym place) ∙ same in
-      ap (λ (x : Window). slice_index x.halves (half_in_line (groups_in c).text p + 1)) at
-      ∙ windows_are_of_the_mask (paged_at c v seen) (line_no (groups_in c).text p) (half_in_line (groups_in c).text p + 1) good ok.image.text.long (omega (arith, below)) (omega (arith, low)) (λ e. omega (arith, e, half, more, end))
+      let below : offset_in (image_groups c).text p < text_size (image_groups c).text = offset_below (image_groups c).text RAM_START p good.text.ranges inside in
+      let at : w ≡ window_of (paged_at c v seen) (line_no (image_groups c).text p) = is ∙ ap (λ n. window_of (paged_at c v seen) n) line in
+      let half : 32 * line_no (image_groups c).text p + half_in_line (image_groups c).text p ≡ half_no (image_groups c).text p = line-half (image_groups c).text p in
+      let near = end_near (image_groups c).text RAM_START (64 * line_no (image_groups c).text p) good.text.ranges (omega (arith, below)) in
+      let pages : end_in (image_groups c).text (64 * line_no (image_groups c).text p) % 4096 ≡ 0 = end-pages (image_groups c).text RAM_START (64 * line_no (image_groups c).text p) good.text.ranges (omega (arith, below)) in
+      let low : half_in_line (image_groups c).text p < 32 = omega arith in
+      let same : end_in (image_groups c).text (64 * line_no (image_groups c).text p + 2 * half_in_line (image_groups c).text p) ≡ end_in (image_groups c).text (64 * line_no (image_groups c).text p) =
+      end-within (image_groups c).text (64 * line_no (image_groups c).text p) (2 * half_in_line (image_groups c).text p) (omega (arith, near.0, pages, low)) in
+      let place : 64 * line_no (image_groups c).text p + 2 * half_in_line (image_groups c).text p ≡ 2 * half_no (image_groups c).text p = omega (arith, half) in
+      let end : end_in (image_groups c).text (2 * half_no (image_groups c).text p) ≡ end_in (image_groups c).text (64 * line_no (image_groups c).text p) = ap (λ n. end_in (image_groups c).text n) (sym place) ∙ same in
+      ap (λ (x : Window). slice_index x.halves (half_in_line (image_groups c).text p + 1)) at
+      ∙ windows_are_of_the_mask (paged_at c v seen) (line_no (image_groups c).text p) (half_in_line (image_groups c).text p + 1) good ok.image.text.long (omega (arith, below)) (omega (arith, low)) (λ e. omega (arith, e, half, more, end))
       ∙ ap (λ n. masked (paged_at c v seen) n) (omega (arith, half))
 
   -- truthful windows hold the original of what is read, whose group is present
-  pub read-original : (v : ℕ) (log : List LogEntry) (w : Windows) (begins goes : StepStart) (r : IsRead (groups_in c).text w begins goes) → w.view ≡ v → AreTruthful c log w
-      → in_text (groups_in c).text r.place ≡ true
-      → IsOriginal (paged_at c v log) (half_no (groups_in c).text r.place) (first_in (groups_in c).text r.place r.window) (second_in (groups_in c).text r.place r.window)
+  pub read-original : (v : ℕ) (log : List LogEntry) (w : Windows) (begins goes : StepStart) (r : IsRead (image_groups c).text w begins goes) → w.view ≡ v → AreTruthful c log w
+      → in_text (image_groups c).text r.place ≡ true
+      → IsOriginal (paged_at c v log) (half_no (image_groups c).text r.place) (first_in (image_groups c).text r.place r.window) (second_in (image_groups c).text r.place r.window)
   read-original v log w begins goes r view truth inside =
       let all : AllTaken c v log w.cleared w.held.items = subst (λ u. AllTaken c u log w.cleared w.held.items) view truth.held in
-      by_found (found-taken c v log w.cleared (line_no (groups_in c).text r.place) r.window w.held.items all r.held) where
-        by_found : IsFound c v log w.cleared (line_no (groups_in c).text r.place) r.window
-            → IsOriginal (paged_at c v log) (half_no (groups_in c).text r.place) (first_in (groups_in c).text r.place r.window) (second_in (groups_in c).text r.place r.window)
+      by_found (found-taken c v log w.cleared (line_no (image_groups c).text r.place) r.window w.held.items all r.held) where
+        by_found : IsFound c v log w.cleared (line_no (image_groups c).text r.place) r.window
+            → IsOriginal (paged_at c v log) (half_no (image_groups c).text r.place) (first_in (image_groups c).text r.place r.window) (second_in (image_groups c).text r.place r.window)
         by_found f =
             let q : PagedView = paged_at c v f.taken.seen in
-            let n : ℕ = half_no (groups_in c).text r.place in
-            let first : first_in (groups_in c).text r.place r.window ≡ masked (paged_at c v f.taken.seen) (half_no (groups_in c).text r.place) = window-first v f.taken.seen r.place r.window inside f.line_is f.taken.is in
-            elim (is_present (paged_at c v f.taken.seen).base f.taken.seen (group_in (groups_in c).starts (2 * half_no (groups_in c).text r.place)))
-            as (λ b. is_present (paged_at c v f.taken.seen).base f.taken.seen (group_in (groups_in c).starts (2 * half_no (groups_in c).text r.place)) ≡ b
-            → IsOriginal (paged_at c v log) (half_no (groups_in c).text r.place) (first_in (groups_in c).text r.place r.window) (second_in (groups_in c).text r.place r.window)) [
+            let n : ℕ = half_no (image_groups c).text r.place in
+            let first : first_in (image_groups c).text r.place r.window ≡ masked (paged_at c v f.taken.seen) (half_no (image_groups c).text r.place) = window-first v f.taken.seen r.place r.window inside f.line_is f.taken.is in
+            elim (is_present (paged_at c v f.taken.seen).base f.taken.seen (group_in (image_groups c).starts (2 * half_no (image_groups c).text r.place)))
+            as (λ b. is_present (paged_at c v f.taken.seen).base f.taken.seen (group_in (image_groups c).starts (2 * half_no (image_groups c).text r.place)) ≡ b
+            → IsOriginal (paged_at c v log) (half_no (image_groups c).text r.place) (first_in (image_groups c).text r.place r.window) (second_in (image_groups c).text r.place r.window)) [
               | true ↦ λ here. record {
                 first_is = first ∙ (rw here refl);
                 second_is = λ same more. window-second v f.taken.seen r.place r.window inside f.line_is f.taken.is more ∙ (rw (same, here) refl);
-                present = present-longer (paged_at c v f.taken.seen).base f.taken.seen log (group_in (groups_in c).starts (2 * half_no (groups_in c).text r.place)) f.taken.front here;
+                present = present-longer (paged_at c v f.taken.seen).base f.taken.seen log (group_in (image_groups c).starts (2 * half_no (image_groups c).text r.place)) f.taken.front here;
               }
               | false ↦ λ here.
-                  let zero : first_in (groups_in c).text r.place r.window ≡ 0 = first ∙ (rw here refl) in
+                  let zero : first_in (image_groups c).text r.place r.window ≡ 0 = first ∙ (rw here refl) in
                   let is_it : is_cleared w.cleared r.place ≡ true = r.zero_cleared zero in
-                  let is_not : is_cleared w.cleared r.place ≡ false = cleared-present (paged_at c v f.taken.seen) w.cleared r.place (half_no (groups_in c).text r.place) good f.taken.clear inside refl here in
+                  let is_not : is_cleared w.cleared r.place ≡ false = cleared-present (paged_at c v f.taken.seen) w.cleared r.place (half_no (image_groups c).text r.place) good f.taken.clear inside refl here in
                   absurd (cc)
             ] refl
 
@@ -307,23 +307,23 @@ module _ (c : Config) (ok : IsConfig c) where
   if-place true q p e = (refl, cc)
   if-place false q p e = absurd (cc)
 
-  module _ (ram : Ram) (has : HasText ram (groups_in c).text (bytes_of c.image.ranges)) (v : ℕ) (log : List LogEntry) (place first second : ℕ)
-      (o : IsOriginal (paged_at c v log) (half_no (groups_in c).text place) first second) where
+  module _ (ram : Ram) (has : HasText ram (image_groups c).text (bytes_of c.image.ranges)) (v : ℕ) (log : List LogEntry) (place first second : ℕ)
+      (o : IsOriginal (paged_at c v log) (half_no (image_groups c).text place) first second) where
     first-same : is_text ram place ≡ true → first ≡ half_at ram place
-    first-same e = o.first_is ∙ sym (text-half ram (groups_in c).text (bytes_of c.image.ranges) place has e)
+    first-same e = o.first_is ∙ sym (text-half ram (image_groups c).text (bytes_of c.image.ranges) place has e)
 
     second-same : (g : ℕ) → is_text ram place ≡ true → half_at ram place % 4 ≡ 3 → IsBehind ram place g → second ≡ g
     second-same g e wide b =
-        let half : half_at ram place ≡ half_of (bytes_of c.image.ranges) (half_no (groups_in c).text place) = text-half ram (groups_in c).text (bytes_of c.image.ranges) place has e in
-        let inside : in_text (groups_in c).text place ≡ true = subst (λ t. in_text t place ≡ true) has.same e in
+        let half : half_at ram place ≡ half_of (bytes_of c.image.ranges) (half_no (image_groups c).text place) = text-half ram (image_groups c).text (bytes_of c.image.ranges) place has e in
+        let inside : in_text (image_groups c).text place ≡ true = subst (λ t. in_text t place ≡ true) has.same e in
         let high : place < RAM_START + RAM_MOST = has.below.high place inside in
         let behind : b.place ≡ place + 2 = omega (arith, b.behind, high) in
-        let more : in_text (groups_in c).text (place + 2) ≡ true = subst (λ q. in_text (groups_in c).text q ≡ true) behind (subst (λ t. in_text t b.place ≡ true) has.same b.text) in
-        let next = next-half (groups_in c).text place has.below.ranges inside more in
-        let same : group_in (groups_in c).starts (2 * (half_no (groups_in c).text place + 1)) ≡ group_in (groups_in c).starts (2 * half_no (groups_in c).text place) =
-        joined c.image (half_no (groups_in c).text place) ok.image next.1 (rw (← half) wide) in
-        let number : half_no (groups_in c).text b.place ≡ half_no (groups_in c).text place + 1 = ap (λ q. half_no (groups_in c).text q) behind ∙ next.0 in
-        o.second_is same next.1 ∙ ap (λ n. half_of (bytes_of c.image.ranges) n) (sym number) ∙ sym (text-half ram (groups_in c).text (bytes_of c.image.ranges) b.place has b.text) ∙ sym b.half
+        let more : in_text (image_groups c).text (place + 2) ≡ true = subst (λ q. in_text (image_groups c).text q ≡ true) behind (subst (λ t. in_text t b.place ≡ true) has.same b.text) in
+        let next = next-half (image_groups c).text place has.below.ranges inside more in
+        let same : group_in (image_groups c).starts (2 * (half_no (image_groups c).text place + 1)) ≡ group_in (image_groups c).starts (2 * half_no (image_groups c).text place) =
+        joined c.image (half_no (image_groups c).text place) ok.image next.1 (rw (← half) wide) in
+        let number : half_no (image_groups c).text b.place ≡ half_no (image_groups c).text place + 1 = ap (λ q. half_no (image_groups c).text q) behind ∙ next.0 in
+        o.second_is same next.1 ∙ ap (λ n. half_of (bytes_of c.image.ranges) n) (sym number) ∙ sym (text-half ram (image_groups c).text (bytes_of c.image.ranges) b.place has b.text) ∙ sym b.half
 
     -- the fetch with these halfwords is the fetch itself
     pub got-same : (got : Fetched) → HalvesAre ram got → text_place got ≡ Some place → with_halves got first second ≡ got

@@ -27,8 +27,8 @@ use Rattle.guest_board.specs.Step.{place_of}
 use Rattle.guest_board.specs.Board.{Seat, State, may, moved, name_of, next_of, next_start, step_of, stepped_by}
 use Rattle.guest_board.specs.Seen.{after_verdict, by_start, line_no, trapped_at, verdict_of}
 use Rattle.guest_board.proofs.Places.{HalvesAre}
-use Rattle.run_evidence.specs.Config.{Config, IsConfig, IsLawful, full, full_at, groups_in, is_base, rules_in, view_in}
-use Rattle.run_evidence.specs.Evidence.{AllJustified, AreJustified, chain_in, is_open, log_in}
+use Rattle.run_evidence.specs.Config.{Config, IsConfig, IsLawfulSchedule, full, full_at, image_groups, is_base, rules_in, view_in}
+use Rattle.run_evidence.specs.Evidence.{AllJustified, AreJustified, chain_in, is_group_open, log_in}
 use Rattle.run_evidence.specs.Growing.{IsAllowedFrom, board_of, paged_at}
 use Rattle.run_evidence.proofs.Growing.{allowed_from_grows, boards_move}
 use Rattle.run_evidence.proofs.Runs.{full_at-more, full_at-now, lawful-more}
@@ -69,39 +69,39 @@ seated-truthful c logs v w truth =
 
 module _ (c : Config) (ok : IsConfig c) (h : List ℕ) (logs : List (List LogEntry)) (just : AreJustified c logs h) (i : ℕ) (m : may (rules_in c) (full c h) i ≡ true)
     (w : Windows) (view : w.view ≡ view_in c (full c h) i) (truth : AreTruthful c (log_in logs w.view) w) where
-  text-is : (full c h).ram.text ≡ (groups_in c).text
+  text-is : (full c h).ram.text ≡ (image_groups c).text
   text-is = (full-texted c h ok).has.same
 
-  next-in : (p : ℕ) → next_of (full c h) i ≡ Some p → in_text (groups_in c).text p ≡ true
+  next-in : (p : ℕ) → next_of (full c h) i ≡ Some p → in_text (image_groups c).text p ≡ true
   next-in p e = subst (λ t. in_text t p ≡ true) text-is (next-text (full c h) i p e)
 
   -- a present group is open at this moment
-  present-open : (v g : ℕ) → is_present (paged_at c v (log_in logs v)).base (log_in logs v) g ≡ true → is_open c logs v (length h) g ≡ true
+  present-open : (v g : ℕ) → is_present (paged_at c v (log_in logs v)).base (log_in logs v) g ≡ true → is_group_open c logs v (length h) g ≡ true
   present-open v g e = or-weaken (is_base c v g) (list_any (λ (x : LogEntry). x.group == g) (log_in logs v)) _ (is_logged-now c h g (log_in logs v) (just v)) e
 
   -- a step by truthful windows is the full kernel's, and its fetch is allowed
   record IsStepOf (r : StepStart) : Type 0 where
     pub same : stepped_by (rules_in c) (full c h) i r ≡ step_of (rules_in c) (full c h) i
-    pub open_group : (p : ℕ) → next_of (full c h) i ≡ Some p → is_open c logs (view_in c (full c h) i) (length h) (group_at (groups_in c) p) ≡ true
+    pub open_group : (p : ℕ) → next_of (full c h) i ≡ Some p → is_group_open c logs (view_in c (full c h) i) (length h) (group_at (image_groups c) p) ≡ true
 
-  read-step : (r : StepStart) → IsRead (groups_in c).text w (next_start (full c h) i) r → IsStepOf r
+  read-step : (r : StepStart) → IsRead (image_groups c).text w (next_start (full c h) i) r → IsStepOf r
   read-step r x =
       let next : next_of (full c h) i ≡ Some x.place = next-is (full c h) i ∙ ap (λ z. place_of z) x.begin ∙ x.next in
-      let inside : in_text (groups_in c).text x.place ≡ true = next-in x.place next in
-      let o : IsOriginal (paged_at c w.view (log_in logs w.view)) (half_no (groups_in c).text x.place) (first_in (groups_in c).text x.place x.window) (second_in (groups_in c).text x.place x.window) =
+      let inside : in_text (image_groups c).text x.place ≡ true = next-in x.place next in
+      let o : IsOriginal (paged_at c w.view (log_in logs w.view)) (half_no (image_groups c).text x.place) (first_in (image_groups c).text x.place x.window) (second_in (image_groups c).text x.place x.window) =
       read-original c ok w.view (log_in logs w.view) w (next_start (full c h) i) r x refl truth inside in
       let halves : HalvesAre (full c h).ram x.got = subst (λ z. StartIs (full c h).ram z) x.begin (start-is (full c h) i) in
-      let same : with_halves x.got (first_in (groups_in c).text x.place x.window) (second_in (groups_in c).text x.place x.window) ≡ x.got =
-      got-same c ok (full c h).ram (full-texted c h ok).has w.view (log_in logs w.view) x.place (first_in (groups_in c).text x.place x.window) (second_in (groups_in c).text x.place x.window) o x.got halves x.next in
+      let same : with_halves x.got (first_in (image_groups c).text x.place x.window) (second_in (image_groups c).text x.place x.window) ≡ x.got =
+      got-same c ok (full c h).ram (full-texted c h ok).has w.view (log_in logs w.view) x.place (first_in (image_groups c).text x.place x.window) (second_in (image_groups c).text x.place x.window) o x.got halves x.next in
       let again : r ≡ next_start (full c h) i = x.reads ∙ ap (λ z. Fetches z) same ∙ sym x.begin in
-      let group : group_at (groups_in c) x.place ≡ group_in (groups_in c).starts (2 * half_no (groups_in c).text x.place) = group-half (groups_in c) x.place (groups-good c.image ok.image) in
-      let here : is_open c logs w.view (length h) (group_at (groups_in c) x.place) ≡ true = present-open w.view (group_at (groups_in c) x.place) (rw group o.present) in
+      let group : group_at (image_groups c) x.place ≡ group_in (image_groups c).starts (2 * half_no (image_groups c).text x.place) = group-half (image_groups c) x.place (groups-good c.image ok.image) in
+      let here : is_group_open c logs w.view (length h) (group_at (image_groups c) x.place) ≡ true = present-open w.view (group_at (image_groups c) x.place) (rw group o.present) in
       record {
         same = ap (λ z. stepped_by (rules_in c) (full c h) i z) again ∙ sym (step-is (rules_in c) (full c h) i);
         open_group = λ p e.
             let place : x.place ≡ p = (let some : Some x.place ≡ Some p = sym next ∙ e in cc) in
-            subst (λ q. is_open c logs (view_in c (full c h) i) (length h) (group_at (groups_in c) q) ≡ true) place
-            (subst (λ u. is_open c logs u (length h) (group_at (groups_in c) x.place) ≡ true) view here);
+            subst (λ q. is_group_open c logs (view_in c (full c h) i) (length h) (group_at (image_groups c) q) ≡ true) place
+            (subst (λ u. is_group_open c logs u (length h) (group_at (image_groups c) x.place) ≡ true) view here);
       }
 
   plain-step : (r : StepStart) → IsPlain (next_start (full c h) i) r → IsStepOf r
@@ -112,7 +112,7 @@ module _ (c : Config) (ok : IsConfig c) (h : List ℕ) (logs : List (List LogEnt
 
   goes-step : (r : StepStart) → by_start (full c h).ram.text w (next_start (full c h) i) ≡ Goes r → IsStepOf r
   goes-step r e =
-      elim (start-goes (groups_in c).text w (next_start (full c h) i) r (subst (λ t. by_start t w (next_start (full c h) i) ≡ Goes r) text-is e)) [
+      elim (start-goes (image_groups c).text w (next_start (full c h) i) r (subst (λ t. by_start t w (next_start (full c h) i) ≡ Goes r) text-is e)) [
         | inl x ↦ plain-step r x
         | inr x ↦ read-step r x
       ]
@@ -133,9 +133,9 @@ module _ (c : Config) (ok : IsConfig c) (h : List ℕ) (logs : List (List LogEnt
 
   lane-needs : (l : Lane) (n : ℕ) → l.vcpu ≡ i → by_start (full c h).ram.text w (next_start (full c h) i) ≡ Needs n → IsTruthful c h logs (in_phase l w (Wants n))
   lane-needs l n own e =
-      let need : IsNeed (groups_in c).text w n (next_start (full c h) i) = start-needs (groups_in c).text w (next_start (full c h) i) n (subst (λ t. by_start t w (next_start (full c h) i) ≡ Needs n) text-is e) in
-      let inside : in_text (groups_in c).text need.place ≡ true = next-in need.place (next-is (full c h) i ∙ need.next) in
-      let below : offset_in (groups_in c).text need.place < text_size (groups_in c).text = offset_below (groups_in c).text RAM_START need.place (groups-good c.image ok.image).text.ranges inside in
+      let need : IsNeed (image_groups c).text w n (next_start (full c h) i) = start-needs (image_groups c).text w (next_start (full c h) i) n (subst (λ t. by_start t w (next_start (full c h) i) ≡ Needs n) text-is e) in
+      let inside : in_text (image_groups c).text need.place ≡ true = next-in need.place (next-is (full c h) i ∙ need.next) in
+      let below : offset_in (image_groups c).text need.place < text_size (image_groups c).text = offset_below (image_groups c).text RAM_START need.place (groups-good c.image ok.image).text.ranges inside in
       record { windows = truth; phase = omega (arith, need.number, below); view = subst (λ k. w.view ≡ view_in c (full c h) k) (sym own) view }
 
   lane-zeroes : (l : Lane) (p : ℕ) → l.vcpu ≡ i → by_start (full c h).ram.text w (next_start (full c h) i) ≡ Zeroes p
@@ -158,7 +158,7 @@ justified-more c logs h i just v = all_justified-more c h i (log_in logs v) (jus
 -- the board of this schedule, which is lawful and fetches from step `from` on what the logs allow; the lane is vCPU i's
 pub record IsRunTo (c : Config) (logs : List (List LogEntry)) (from i : ℕ) (h : List ℕ) (b : Seat) (l : Lane) : Type 0 where
   pub board : b ≡ board_of c h
-  pub lawful : IsLawful c h
+  pub lawful : IsLawfulSchedule c h
   pub allowed : IsAllowedFrom c logs h from
   pub vcpu : l.vcpu ≡ i
   pub truthful : IsTruthful c h logs l

@@ -11,7 +11,7 @@ use Rattle.guest_board.specs.declared.seen.Verdict.TheVariants.{Idle, Needs, Zer
 use Rattle.guest_board.specs.Board.{Seat, may, next_of}
 use Rattle.guest_board.specs.Seen.{after_verdict}
 use Rattle.run_evidence.proofs.Steps.{may-slot}
-use Rattle.run_evidence.specs.Config.{Config, IsConfig, groups_in, is_base, full_at, view_in, fetched_at, view_at}
+use Rattle.run_evidence.specs.Config.{Config, IsConfig, image_groups, is_base, full_at, view_in, fetched_at, view_at}
 use Rattle.run_evidence.specs.Evidence.{IsJustified, AllJustified}
 use Rattle.run_evidence.specs.Growing.{views_count}
 use Rattle.run_evidence.proofs.Logged.{IsOfStep, AllOfSteps}
@@ -186,7 +186,7 @@ covered-empty c schedule (e ∷ es) covered just steps =
     let s : IsOfStep schedule e = steps.0 in
     let next : fetched_at c schedule e.at ≡ Some e.pc = subst (λ i. next_of (full_at c schedule e.at) i ≡ Some e.pc) s.vcpu j.next in
     let view : view_at c schedule e.at ≡ e.view = subst (λ i. view_in c (full_at c schedule e.at) i ≡ e.view) s.vcpu j.view in
-    let here : is_base c (view_at c schedule e.at) (group_at (groups_in c) e.pc) ≡ true = covered e.at e.pc s.within next in
+    let here : is_base c (view_at c schedule e.at) (group_at (image_groups c) e.pc) ≡ true = covered e.at e.pc s.within next in
     let there : is_base c e.view e.group ≡ true = ap (λ u. is_base c u e.group) (sym view) ∙ ap (λ g. is_base c (view_at c schedule e.at) g) j.group ∙ here in
     let no : true ≡ false = sym there ∙ j.missing in absurd (cc)
 

@@ -7,7 +7,7 @@ use Rattle.std.proofs.lemmas.Bool.Decides.{nat_tests}
 use Rattle.fc_numbers.specs.declared.places.Span.{Span}
 use Rattle.fc_numbers.specs.declared.window.Window.{Window}
 use Rattle.fc_numbers.specs.Spans.{holds}
-use Rattle.function_table.specs.Groups.{Groups, IsGroups, IsRangeOf, group_at, in_text, range_of}
+use Rattle.function_table.specs.Groups.{Groups, IsGroups, IsRangeOf, group_at, in_groups_text, range_of}
 use Rattle.function_table.proofs.GroupLemmas.{group-below, range_is}
 use Rattle.guest_board.specs.declared.seen.Windows.{Windows}
 use Rattle.guest_board.specs.declared.seen.Verdict.{Verdict}
@@ -25,7 +25,7 @@ use Rattle.vcpu_core.specs.declared.lane.Went.{Went}
 use Rattle.vcpu_core.specs.declared.lane.Went.TheVariants.{Over, Stepped, Erased}
 use Rattle.vcpu_core.specs.Lanes.{after_fill, after_look, after_mend, after_turn, seated, went_by, with_newest}
 use Rattle.vcpu_core.specs.Truthful.{IsOfView}
-use Rattle.vcpu_core.specs.Waits.{has_line, left_of, line_waits, lines_of, phase_waits, waits_of, window_waits}
+use Rattle.vcpu_core.specs.Waits.{has_line, left_of, line_waits, lines_held, phase_waits, waits_of, window_waits}
 use Rattle.vcpu_core.specs.World.{World, IsLaneReady, IsReady, after_event, blank_lane, go_of, gone, lane_of, paged_in, verdict_in, view_of, went_in, went_of, windows_of}
 use Rattle.vcpu_core.proofs.Events.{IsLaneSet, IsTick, go-erased, go-sets, go-stepped, lane-apart, went-may}
 use Rattle.vcpu_core.proofs.Ready.{next-in}
@@ -39,20 +39,20 @@ or-true true b e = refl
 or-true false b e = e
 
 -- the lines of windows with one more
-lines-end : (held : List Window) (x : Window) → lines_of (held ++ x ∷ []) ≡ lines_of held ++ x.line ∷ []
+lines-end : (held : List Window) (x : Window) → lines_held (held ++ x ∷ []) ≡ lines_held held ++ x.line ∷ []
 lines-end [] x = refl
 lines-end (w ∷ ws) x = ap (λ (lines : List ℕ). w.line ∷ lines) (lines-end ws x)
 
-lines-drop : (held : List Window) → lines_of (drop 1 held) ≡ drop 1 (lines_of held)
+lines-drop : (held : List Window) → lines_held (drop 1 held) ≡ drop 1 (lines_held held)
 lines-drop [] = refl
 lines-drop (w ∷ ws) = refl
 
-lines-newest : (held : List Window) (x : Window) → lines_of (with_newest held x) ≡ with_newest (lines_of held) x.line
+lines-newest : (held : List Window) (x : Window) → lines_held (with_newest held x) ≡ with_newest (lines_held held) x.line
 lines-newest held x =
-    let long : length (lines_of held) ≡ length held = length-map held (λ (w : Window). w.line) in
-    subst (λ n. lines_of (with_newest held x) ≡ (if nat_lt n 4 then lines_of held ++ x.line ∷ [] else drop 1 (lines_of held) ++ x.line ∷ [])) (sym long)
-    (elim (nat_lt (length held) 4) as (λ b. lines_of (if b then held ++ x ∷ [] else drop 1 held ++ x ∷ [])
-    ≡ (if b then lines_of held ++ x.line ∷ [] else drop 1 (lines_of held) ++ x.line ∷ [])) [
+    let long : length (lines_held held) ≡ length held = length-map held (λ (w : Window). w.line) in
+    subst (λ n. lines_held (with_newest held x) ≡ (if nat_lt n 4 then lines_held held ++ x.line ∷ [] else drop 1 (lines_held held) ++ x.line ∷ [])) (sym long)
+    (elim (nat_lt (length held) 4) as (λ b. lines_held (if b then held ++ x ∷ [] else drop 1 held ++ x ∷ [])
+    ≡ (if b then lines_held held ++ x.line ∷ [] else drop 1 (lines_held held) ++ x.line ∷ [])) [
       | true ↦ lines-end held x
       | false ↦ lines-end (drop 1 held) x ∙ ap (λ (lines : List ℕ). lines ++ x.line ∷ []) (lines-drop held)
     ])
@@ -70,18 +70,18 @@ newest-line lines n =
     ]
 
 -- which lines are held, by the window that is found
-unheld-line : (line : ℕ) (held : List Window) → window_at line held ≡ None → has_line (lines_of held) line ≡ false
+unheld-line : (line : ℕ) (held : List Window) → window_at line held ≡ None → has_line (lines_held held) line ≡ false
 unheld-line line [] e = refl
 unheld-line line (w ∷ ws) e =
-    elim (w.line == line) as (λ b. cond b (Some w) (window_at line ws) ≡ None → (b || has_line (lines_of ws) line) ≡ false) [
+    elim (w.line == line) as (λ b. cond b (Some w) (window_at line ws) ≡ None → (b || has_line (lines_held ws) line) ≡ false) [
       | true ↦ λ h. absurd (cc)
       | false ↦ λ h. unheld-line line ws h
     ] e
 
-held-line : (line : ℕ) (held : List Window) (x : Window) → window_at line held ≡ Some x → has_line (lines_of held) line ≡ true
+held-line : (line : ℕ) (held : List Window) (x : Window) → window_at line held ≡ Some x → has_line (lines_held held) line ≡ true
 held-line line [] x e = absurd (cc)
 held-line line (w ∷ ws) x e =
-    elim (w.line == line) as (λ b. cond b (Some w) (window_at line ws) ≡ Some x → (b || has_line (lines_of ws) line) ≡ true) [
+    elim (w.line == line) as (λ b. cond b (Some w) (window_at line ws) ≡ Some x → (b || has_line (lines_held ws) line) ≡ true) [
       | true ↦ λ h. refl
       | false ↦ λ h. held-line line ws x h
     ] e
@@ -97,8 +97,8 @@ line-most text lines cleared None = omega arith
 line-most text lines cleared (Some p) = most-by (has_line lines (line_no text p)) (is_cleared cleared p)
 
 phase-most : (t : Groups) (l : Lane) (w : Windows) (next : Option ℕ) (phase : Phase) → phase_waits t l w next phase ≤ 9
-phase-most t l w next Running = omega (arith, line-most t.text (lines_of w.held.items) w.cleared next)
-phase-most t l w next (Wants n) = omega (arith, line-most t.text (with_newest (lines_of l.windows.held.items) n) l.windows.cleared next)
+phase-most t l w next Running = omega (arith, line-most t.text (lines_held w.held.items) w.cleared next)
+phase-most t l w next (Wants n) = omega (arith, line-most t.text (with_newest (lines_held l.windows.held.items) n) l.windows.cleared next)
 phase-most t l w next (Trapped trap) = omega (arith, line-most t.text [] (Some (range_of t (group_at t trap.pc))) next)
 phase-most t l w next (Looked k) = omega (arith, line-most t.text [] (Some (range_of t k.group)) next)
 
@@ -121,7 +121,7 @@ line-nearer text cleared p n lines e none =
     nearer-by (has_line lines (line_no text p)) (has_line (with_newest lines n) (line_no text p)) (is_cleared cleared p) none new
 
 -- what a group's own place waits for once the group was mended
-covered-waits : (t : Groups) (p : ℕ) → IsGroups t → in_text t p ≡ true → line_waits t.text [] (Some (range_of t (group_at t p))) (Some p) ≡ 2
+covered-waits : (t : Groups) (p : ℕ) → IsGroups t → in_groups_text t p ≡ true → line_waits t.text [] (Some (range_of t (group_at t p))) (Some p) ≡ 2
 covered-waits t p good inside =
     let range : IsRangeOf t (group_at t p) (range_of t (group_at t p)) = range_is t (group_at t p) good (group-below t p) in
     let here : holds (range_of t (group_at t p)) p ≡ (group_at t p == group_at t p) = range.each p inside in
@@ -133,10 +133,10 @@ window-line p n = refl
 
 -- the line that was wanted is filled
 filled-nearer : (text : List Span) (p : PagedView) (n : ℕ) (held : List Window) (cleared : Option Span) (next : Option ℕ)
-    → line_waits text (lines_of (with_newest held (window_of p n))) cleared next < 1 + line_waits text (with_newest (lines_of held) n) cleared next
+    → line_waits text (lines_held (with_newest held (window_of p n))) cleared next < 1 + line_waits text (with_newest (lines_held held) n) cleared next
 filled-nearer text p n held cleared next =
-    let lines : lines_of (with_newest held (window_of p n)) ≡ with_newest (lines_of held) n = lines-newest held (window_of p n) ∙ ap (λ m. with_newest (lines_of held) m) (window-line p n) in
-    let same : line_waits text (lines_of (with_newest held (window_of p n))) cleared next ≡ line_waits text (with_newest (lines_of held) n) cleared next =
+    let lines : lines_held (with_newest held (window_of p n)) ≡ with_newest (lines_held held) n = lines-newest held (window_of p n) ∙ ap (λ m. with_newest (lines_held held) m) (window-line p n) in
+    let same : line_waits text (lines_held (with_newest held (window_of p n))) cleared next ≡ line_waits text (with_newest (lines_held held) n) cleared next =
     ap (λ (ls : List ℕ). line_waits text ls cleared next) lines in
     omega (arith, same)
 
@@ -156,16 +156,16 @@ module _ (w : World) (i : ℕ) (l : Lane) (m : may w.board.rules w.board.state i
       let number : n ≡ line_no w.groups.text need.place = subst (λ t. n ≡ line_no t need.place) r.text need.number in
       let unheld : window_at (line_no w.groups.text need.place) (windows_of w i l).held.items ≡ None =
       subst (λ t. window_at (line_no t need.place) (windows_of w i l).held.items ≡ None) r.text need.unheld in
-      rw (running, next) (line-nearer w.groups.text (windows_of w i l).cleared need.place n (lines_of (windows_of w i l).held.items) number
+      rw (running, next) (line-nearer w.groups.text (windows_of w i l).cleared need.place n (lines_held (windows_of w i l).held.items) number
       (unheld-line (line_no w.groups.text need.place) (windows_of w i l).held.items unheld))
   turned-nearer (Zeroes p) e running erased =
       let zero : (place_of (next_start w.board.state i) ≡ Some p) × IsZero w.board.state.ram.text (windows_of w i l) p =
       start-zeroes w.board.state.ram.text (windows_of w i l) (next_start w.board.state i) p e in
       let next : next_of w.board.state i ≡ Some p = next-is w.board.state i ∙ zero.0 in
-      let inside : in_text w.groups p ≡ true = next-in w i r p next in
+      let inside : in_groups_text w.groups p ≡ true = next-in w i r p next in
       let found : window_at (line_no w.groups.text p) (windows_of w i l).held.items ≡ Some zero.1.window =
       subst (λ t. window_at (line_no t p) (windows_of w i l).held.items ≡ Some zero.1.window) r.text zero.1.held in
-      let held : has_line (lines_of (windows_of w i l).held.items) (line_no w.groups.text p) ≡ true =
+      let held : has_line (lines_held (windows_of w i l).held.items) (line_no w.groups.text p) ≡ true =
       held-line (line_no w.groups.text p) (windows_of w i l).held.items zero.1.window found in
       let five : window_waits w.groups.text (windows_of w i l) (Some p) ≡ 5 = rw (held, zero.1.uncleared) refl in
       let two : line_waits w.groups.text [] (Some (range_of w.groups (group_at w.groups p))) (Some p) ≡ 2 = covered-waits w.groups p r.groups inside in

@@ -11,10 +11,10 @@ GoesOnAlone w i [] = Unit {0}
 GoesOnAlone w i (j ∷ js) = (j ≡ i → went_of w j ≢ Over) × (j ≢ i → went_of w j ≢ Stepped) × GoesOnAlone (go_of w j) i js
 
 -- how many of the list are vCPU i's
-abbrev pub count_of : ℕ → List ℕ → ℕ
-count_of i js = count_by (λ j. j == i) js
+abbrev pub count_of_vcpu : ℕ → List ℕ → ℕ
+count_of_vcpu i js = count_by (λ j. j == i) js
 
 -- of ten events of the vCPU, after any list, at least one is a step
 abbrev pub OneInTenSteps : Type 0
 OneInTenSteps = (c : Config) → IsConfig c → (is js : List ℕ) (i : ℕ) → GoesOnAlone (go_all (first_world c) is) i js
-    → 10 ≤ count_of i js → 1 ≤ count_of i (erased (go_all (first_world c) is) js)
+    → 10 ≤ count_of_vcpu i js → 1 ≤ count_of_vcpu i (erased (go_all (first_world c) is) js)

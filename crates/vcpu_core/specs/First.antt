@@ -5,7 +5,7 @@ use Rattle.std.specs.List.{range_with_len}
 use Rattle.view_file.specs.Named.{view_named}
 use Rattle.view_store.specs.Paged.{PagedView}
 use Rattle.guest_board.specs.First.{first_seat}
-use Rattle.run_evidence.specs.Config.{Config, groups_in}
+use Rattle.run_evidence.specs.Config.{Config, image_groups}
 use Rattle.run_evidence.specs.Growing.{paged_at, views_count}
 use Rattle.vcpu_core.specs.declared.lane.Lane.{Lane}
 use Rattle.vcpu_core.specs.declared.lane.Phase.TheVariants.{Running}
@@ -28,7 +28,7 @@ first_lanes v n = map (first_lane v) (range_with_len 0 n)
 unfoldable pub first_world : Config → World
 first_world c = record {
   profile = c.views;
-  groups = groups_in c;
+  groups = image_groups c;
   board = first_seat c.image c.setup;
   paged_views = first_paged_views c (views_count c);
   lanes = first_lanes (view_named c.views c.setup.start) c.setup.vcpus;

@@ -49,11 +49,11 @@ went_by (Zeroes place) = went.Erased
 went_by (Goes start) = went.Stepped
 
 -- with the window of line n as well
-abbrev pub filled : PagedView → ℕ → Windows → Windows
-filled p n w = record { view = w.view; held = record { items = with_newest w.held.items (window_of p n) }; cleared = w.cleared }
+abbrev pub windows_with_line : PagedView → ℕ → Windows → Windows
+windows_with_line p n w = record { view = w.view; held = record { items = with_newest w.held.items (window_of p n) }; cleared = w.cleared }
 
 abbrev pub after_fill : PagedView → ℕ → Lane → Lane
-after_fill p n l = in_phase l (filled p n l.windows) phase.Running
+after_fill p n l = in_phase l (windows_with_line p n l.windows) phase.Running
 
 abbrev pub after_look : Groups → Trapped → Lane → Lane
 after_look groups t l = in_phase l l.windows (phase.Looked (looked_of groups t))

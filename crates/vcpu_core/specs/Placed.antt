@@ -3,13 +3,13 @@
 -- entry's; trap and entry are of the lane's view.
 use Rattle.std.specs.Prelude.{◌≡◌, ◌*◌, ◌<◌, true}
 use Rattle.fc_numbers.specs.Spans.{text_size}
-use Rattle.function_table.specs.Groups.{Groups, groups_count, in_text}
+use Rattle.function_table.specs.Groups.{Groups, groups_count, in_groups_text}
 use Rattle.vcpu_core.specs.declared.lane.Lane.{Lane}
 use Rattle.vcpu_core.specs.declared.lane.Phase.{Phase}
 use Rattle.vcpu_core.specs.declared.lane.Phase.TheVariants.{Running, Wants, Trapped, Looked}
 
-abbrev pub IsPlaced : Groups → Lane → Phase → Type 0
-IsPlaced groups l Running = Unit {0}
-IsPlaced groups l (Wants n) = 64 * n < text_size groups.text
-IsPlaced groups l (Trapped t) = (t.view ≡ l.windows.view) × (in_text groups t.pc ≡ true)
-IsPlaced groups l (Looked k) = (k.entry.view ≡ l.windows.view) × (k.group < groups_count groups) × (k.entry.group ≡ k.group)
+abbrev pub IsPlacedPhase : Groups → Lane → Phase → Type 0
+IsPlacedPhase groups l Running = Unit {0}
+IsPlacedPhase groups l (Wants n) = 64 * n < text_size groups.text
+IsPlacedPhase groups l (Trapped t) = (t.view ≡ l.windows.view) × (in_groups_text groups t.pc ≡ true)
+IsPlacedPhase groups l (Looked k) = (k.entry.view ≡ l.windows.view) × (k.group < groups_count groups) × (k.entry.group ≡ k.group)

@@ -8,11 +8,11 @@ use Rattle.view_store.specs.declared.view.Patched.TheVariants.{Recovered, WasPre
 use Rattle.view_store.specs.Paged.{PagedView, is_logged, logged}
 use Rattle.guest_board.specs.Board.{Seat}
 use Rattle.gstage.specs.Table.{Table}
-use Rattle.run_evidence.specs.Config.{Config, IsConfig, IsLawful, full, groups_in}
+use Rattle.run_evidence.specs.Config.{Config, IsConfig, IsLawfulSchedule, full, image_groups}
 use Rattle.run_evidence.specs.Evidence.{AreJustified, IsJustified, log_in}
 use Rattle.run_evidence.specs.Growing.{Begins, IsAllowedFrom, board_of, paged_at}
 use Rattle.vcpu_core.specs.declared.lane.Lane.{Lane}
-use Rattle.vcpu_core.specs.Placed.{IsPlaced}
+use Rattle.vcpu_core.specs.Placed.{IsPlacedPhase}
 use Rattle.vcpu_core.specs.Stages.{AreStagesFor}
 use Rattle.vcpu_core.specs.Truthful.{IsTruthful}
 
@@ -20,14 +20,14 @@ use Rattle.vcpu_core.specs.Truthful.{IsTruthful}
 -- logs allow, and the vCPU's lane is truthful for it
 pub record AreAllowedSteps (c : Config) (schedule : List ℕ) (logs : List (List LogEntry)) (i n : ℕ) (b : Seat) (l : Lane) : Type 0 where
   pub board : b ≡ board_of c (schedule ++ replicate n i)
-  pub lawful : IsLawful c (schedule ++ replicate n i)
+  pub lawful : IsLawfulSchedule c (schedule ++ replicate n i)
   pub allowed : IsAllowedFrom c logs (schedule ++ replicate n i) (length schedule)
   pub vcpu : l.vcpu ≡ i
   pub truthful : IsTruthful c (schedule ++ replicate n i) logs l
 
 abbrev pub TurnsKeep : Views → Seat → Lane → Seat → Lane → ℕ → Type 0
 TurnsKeep views b l b' l' n = (c : Config) (schedule : List ℕ) (logs : List (List LogEntry)) → IsConfig c → c.views ≡ views
-    → b ≡ board_of c schedule → IsLawful c schedule → AreJustified c logs schedule → IsTruthful c schedule logs l
+    → b ≡ board_of c schedule → IsLawfulSchedule c schedule → AreJustified c logs schedule → IsTruthful c schedule logs l
     → AreAllowedSteps c schedule logs l.vcpu n b' l'
 
 -- the view that a window is taken from has the log for which the lane is truthful
@@ -36,7 +36,7 @@ FillKeeps p l l' = (c : Config) (schedule : List ℕ) (logs : List (List LogEntr
     → p ≡ paged_at c l.windows.view (log_in logs l.windows.view) → IsTruthful c schedule logs l → IsTruthful c schedule logs l'
 
 abbrev pub LookKeeps : Groups → Lane → Lane → Type 0
-LookKeeps groups l l' = (c : Config) (schedule : List ℕ) (logs : List (List LogEntry)) → IsConfig c → groups ≡ groups_in c
+LookKeeps groups l l' = (c : Config) (schedule : List ℕ) (logs : List (List LogEntry)) → IsConfig c → groups ≡ image_groups c
     → IsTruthful c schedule logs l → IsTruthful c schedule logs l'
 
 -- an entry of this view, justified by the schedule, whose group was not logged
@@ -72,7 +72,7 @@ TruthfulLanesStay = (c : Config) (schedule later : List ℕ) (logs more : List (
 
 -- what the rows ask of a lane is true of a truthful one
 abbrev pub TruthfulLanesArePlaced : Type 0
-TruthfulLanesArePlaced = (c : Config) (schedule : List ℕ) (logs : List (List LogEntry)) (l : Lane) → IsTruthful c schedule logs l → IsPlaced (groups_in c) l l.phase
+TruthfulLanesArePlaced = (c : Config) (schedule : List ℕ) (logs : List (List LogEntry)) (l : Lane) → IsTruthful c schedule logs l → IsPlacedPhase (image_groups c) l l.phase
 
 -- second-stage tables that serve the board after one schedule serve it after any other
 abbrev pub StagesServe : Type 0

@@ -6,12 +6,12 @@ use Rattle.std.specs.Prelude.{◌≡◌, ℕ, ◌*◌, ◌<◌, ◌≤◌, true,
 use Rattle.fc_numbers.specs.declared.places.Span.{Span}
 use Rattle.fc_numbers.specs.declared.window.Window.{Window}
 use Rattle.fc_numbers.specs.Spans.{text_size}
-use Rattle.function_table.specs.Groups.{group_at, groups_count, in_text, range_of}
+use Rattle.function_table.specs.Groups.{group_at, groups_count, in_groups_text, range_of}
 use Rattle.chain_log.specs.declared.entry.LogEntry.{LogEntry}
 use Rattle.view_store.specs.Paged.{PagedView, is_present, window_of}
 use Rattle.guest_board.specs.declared.seen.Windows.{Windows}
 use Rattle.guest_board.specs.Board.{may, next_of}
-use Rattle.run_evidence.specs.Config.{Config, groups_in, rules_in, full, full_at, view_in}
+use Rattle.run_evidence.specs.Config.{Config, image_groups, rules_in, full, full_at, view_in}
 use Rattle.run_evidence.specs.Evidence.{chain_in, log_in}
 use Rattle.run_evidence.specs.Growing.{Begins, paged_at}
 use Rattle.vcpu_core.specs.declared.lane.Lane.{Lane}
@@ -45,7 +45,7 @@ pub record IsTrapOf (c : Config) (schedule : List ℕ) (view vcpu at pc : ℕ) (
   pub early : at ≤ length schedule
   pub may_step : may (rules_in c) (full_at c schedule at) vcpu ≡ true
   pub next : next_of (full_at c schedule at) vcpu ≡ Some pc
-  pub inside : in_text (groups_in c) pc ≡ true
+  pub inside : in_groups_text (image_groups c) pc ≡ true
   pub view_is : view_in c (full_at c schedule at) vcpu ≡ view
   pub chain_is : chain ≡ chain_in (full_at c schedule at) vcpu
 
@@ -57,10 +57,10 @@ pub record IsKeptTrap (c : Config) (schedule : List ℕ) (l : Lane) (view vcpu a
 
 abbrev pub IsTruePhase : Config → List ℕ → Lane → Phase → Type 0
 IsTruePhase c schedule l Running = Unit {0}
-IsTruePhase c schedule l (Wants n) = 64 * n < text_size (groups_in c).text
+IsTruePhase c schedule l (Wants n) = 64 * n < text_size (image_groups c).text
 IsTruePhase c schedule l (Trapped t) = IsKeptTrap c schedule l t.view t.vcpu t.at t.pc t.chain.items
 IsTruePhase c schedule l (Looked k) = IsKeptTrap c schedule l k.entry.view k.entry.vcpu k.entry.at k.entry.pc k.entry.chain.items
-    × (k.group ≡ k.entry.group) × (k.entry.group ≡ group_at (groups_in c) k.entry.pc)
+    × (k.group ≡ k.entry.group) × (k.entry.group ≡ group_at (image_groups c) k.entry.pc)
 
 -- in every phase but the running one the lane's view is this one
 abbrev pub IsOfView : ℕ → Lane → Phase → Type 0

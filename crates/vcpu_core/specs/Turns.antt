@@ -57,11 +57,11 @@ abbrev pub turns_of : Views → ℕ → Seat → Lane → AfterTurns
 turns_of views limit b l = turns_from views 0 limit b l
 
 -- why a turn ends at this verdict, if it does
-abbrev pub ends_by : Verdict → Option Then
-ends_by Idle = Some Over
-ends_by (Needs n) = Some Need
-ends_by (Zeroes place) = Some Zero
-ends_by (Goes start) = None
+abbrev pub turn_end_at : Verdict → Option Then
+turn_end_at Idle = Some Over
+turn_end_at (Needs n) = Some Need
+turn_end_at (Zeroes place) = Some Zero
+turn_end_at (Goes start) = None
 
 -- what the one event of a turn with limit 1 was
 abbrev pub went_then : Then → Went

@@ -1,7 +1,7 @@
 -- Lists of events in which no other vCPU steps between an event that is no step and the next step of its vCPU.
 use Rattle.std.specs.Prelude.{◌≡◌, ℕ, ◌<◌, true, Some, List, [], ◌∷◌, length}
 use Rattle.function_table.specs.Groups.{group_at}
-use Rattle.run_evidence.specs.Config.{Config, IsConfig, groups_in, is_base, fetched_at, view_at}
+use Rattle.run_evidence.specs.Config.{Config, IsConfig, image_groups, is_base, fetched_at, view_at}
 use Rattle.vcpu_core.specs.declared.lane.Went.{Went}
 use Rattle.vcpu_core.specs.declared.lane.Went.TheVariants.{Over, Stepped, Erased}
 use Rattle.vcpu_core.specs.First.{first_world}
@@ -26,7 +26,7 @@ IsUndisturbed w (i ∷ is) = (went_of w i ≡ Erased → StepsFirst (go_of w i) 
 
 -- each fetch of text is of a group in the base of its view
 abbrev pub IsCovered : Config → List ℕ → Type 0
-IsCovered c schedule = (t p : ℕ) → t < length schedule → fetched_at c schedule t ≡ Some p → is_base c (view_at c schedule t) (group_at (groups_in c) p) ≡ true
+IsCovered c schedule = (t p : ℕ) → t < length schedule → fetched_at c schedule t ≡ Some p → is_base c (view_at c schedule t) (group_at (image_groups c) p) ≡ true
 
 -- no view has an entry
 abbrev pub LogsNothing : World → Type 0

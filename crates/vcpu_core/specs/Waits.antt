@@ -15,8 +15,8 @@ use Rattle.vcpu_core.specs.Lanes.{with_newest}
 use Rattle.vcpu_core.specs.World.{World, lane_of, windows_of}
 
 -- the lines that windows are held of
-abbrev pub lines_of : List Window → List ℕ
-lines_of held = map (λ w. w.line) held
+abbrev pub lines_held : List Window → List ℕ
+lines_held held = map (λ w. w.line) held
 
 abbrev pub has_line : List ℕ → ℕ → Bool
 has_line lines line = list_any (λ n. n == line) lines
@@ -29,11 +29,11 @@ line_waits text lines cleared (Some p) =
     if has_line lines (line_no text p) then (if is_cleared cleared p then 0 else 5) else (if is_cleared cleared p then 2 else 7)
 
 abbrev pub window_waits : List Span → Windows → Option ℕ → ℕ
-window_waits text w next = line_waits text (lines_of w.held.items) w.cleared next
+window_waits text w next = line_waits text (lines_held w.held.items) w.cleared next
 
 abbrev pub phase_waits : Groups → Lane → Windows → Option ℕ → Phase → ℕ
 phase_waits groups l w next Running = window_waits groups.text w next
-phase_waits groups l w next (Wants n) = 1 + line_waits groups.text (with_newest (lines_of l.windows.held.items) n) l.windows.cleared next
+phase_waits groups l w next (Wants n) = 1 + line_waits groups.text (with_newest (lines_held l.windows.held.items) n) l.windows.cleared next
 phase_waits groups l w next (Trapped t) = 2 + line_waits groups.text [] (Some (range_of groups (group_at groups t.pc))) next
 phase_waits groups l w next (Looked k) = 1 + line_waits groups.text [] (Some (range_of groups k.group)) next
 

@@ -1,8 +1,7 @@
 -- The view machine: a board, the views, and a lane for each vCPU, and what one event does to them.
 -- The rule: an event of a vCPU that may step goes by its lane's phase; a step, a need, a trap, a fill, a lookup or a mend.
-use Rattle.std.specs.Prelude.{◌≡◌, ℕ, ◌+◌, ◌*◌, ◌<◌, ◌≤◌, if◌then◌else◌, List, [], ◌∷◌, length, slice_index_or, slice_set, map}
+use Rattle.std.specs.Prelude.{◌≡◌, ℕ, ◌+◌, ◌<◌, ◌≤◌, if◌then◌else◌, List, [], ◌∷◌, length, slice_index_or, slice_set}
 use Rattle.function_table.specs.Groups.{Groups, IsGroups}
-use Rattle.chain_log.specs.declared.entry.LogEntry.{LogEntry}
 use Rattle.view_file.specs.declared.views.Views.{Views}
 use Rattle.view_file.specs.declared.views.TheConstants.{APPS_MOST}
 use Rattle.view_file.specs.Named.{view_named}
@@ -17,7 +16,7 @@ use Rattle.vcpu_core.specs.declared.lane.Phase.TheVariants.{Running, Wants, Trap
 use Rattle.vcpu_core.specs.declared.lane.Went.{Went}
 use Rattle.vcpu_core.specs.declared.lane.Went.TheVariants.{Over, Stepped, Erased}
 use Rattle.vcpu_core.specs.Lanes.{blank_windows, seated, after_turn, after_fill, after_look, after_mend, went_by}
-use Rattle.vcpu_core.specs.Placed.{IsPlaced}
+use Rattle.vcpu_core.specs.Placed.{IsPlacedPhase}
 use Rattle.vcpu_core.specs.Truthful.{IsOfView}
 
 -- the profile's views and the groups of the text, which stay; the board, the views and the lanes, which change
@@ -42,9 +41,6 @@ paged_in paged_views v = slice_index_or paged_views v blank_paged
 
 abbrev pub lane_of : World → ℕ → Lane
 lane_of w i = slice_index_or w.lanes i (blank_lane i)
-
-abbrev pub logs_of : List PagedView → List (List LogEntry)
-logs_of paged_views = map (λ p. p.log) paged_views
 
 -- the view of a vCPU: that of its app name
 abbrev pub view_of : World → ℕ → ℕ
@@ -107,7 +103,7 @@ erased w (i ∷ is) = kept_if (went_of w i) i (erased (go_of w i) is)
 pub record IsLaneReady (w : World) (i : ℕ) (l : Lane) : Type 0 where
   pub number : l.vcpu ≡ i
   pub view : l.windows.view < length w.paged_views
-  pub placed : IsPlaced w.groups l l.phase
+  pub placed : IsPlacedPhase w.groups l l.phase
   pub has_view : IsOfView (view_of w i) l l.phase
 
 pub record IsPagedReady (w : World) (v : ℕ) (p : PagedView) : Type 0 where

@@ -7,11 +7,11 @@ ghost use Rattle.view_file.specs.declared.views.TheConstants.{APPS_MOST};
 ghost use Rattle.view_file.specs.Named.{view_named};
 ghost use Rattle.view_file.specs.Fits.{IsViewsFor};
 ghost use Rattle.view_store.specs.Paged.{PagedView};
-ghost use Rattle.run_evidence.specs.Config.{Config, groups_in};
+ghost use Rattle.run_evidence.specs.Config.{Config, image_groups};
 ghost use Rattle.vcpu_core.specs.declared.lane.Lane.{Lane};
 ghost use Rattle.vcpu_core.specs.declared.lane.Phase.{Phase};
 ghost use Rattle.vcpu_core.specs.First.{first_world, first_paged_views, first_lanes, first_paged, first_lane};
-ghost use Rattle.vcpu_core.specs.Placed.{IsPlaced};
+ghost use Rattle.vcpu_core.specs.Placed.{IsPlacedPhase};
 ghost use Rattle.vcpu_core.specs.Stages.{AreStagesFor};
 ghost use Rattle.vcpu_core.specs.Turns.{went_then};
 ghost use Rattle.vcpu_core.specs.Waits.{all_left, left_of};
@@ -84,7 +84,7 @@ fn event(
     requires view { lane.old.windows.view < length views.old }
     requires paged { (paged_in views.old lane.old.windows.view).number ≡ lane.old.windows.view }
     requires groups { (paged_in views.old lane.old.windows.view).groups ≡ table.now }
-    requires placed { IsPlaced table.now lane.old lane.old.phase }
+    requires placed { IsPlacedPhase table.now lane.old lane.old.phase }
     requires stages { AreStagesFor board.old.state.ram (length profile.now.apps + 1) stages.now }
     ensures after { (lanes : List Lane) →
         (let old : World = record { profile = profile.now; groups = table.now; board = board.old; paged_views = views.old; lanes = lanes } in

@@ -6,7 +6,7 @@
 
 ghost use Rattle.std.specs.Prelude.{◌≡◌, ◌≤◌, ◌<◌, ◌+◌, ◌-◌, ◌*◌, ◌^◌, true, length};
 ghost use Rattle.fc_numbers.specs.Spans.{text_size};
-ghost use Rattle.function_table.specs.Groups.{groups_count, group_at, in_text};
+ghost use Rattle.function_table.specs.Groups.{groups_count, group_at, in_groups_text};
 ghost use Rattle.view_file.specs.declared.views.TheConstants.{APPS_MOST};
 ghost use Rattle.view_file.specs.Named.{view_named};
 ghost use Rattle.view_store.specs.Paged.{patched};
@@ -17,9 +17,9 @@ ghost use Rattle.guest_board.specs.Board.{name_of};
 ghost use Rattle.guest_board.specs.Seen.{verdict_of, after_verdict};
 ghost use Rattle.vcpu_core.specs.Stages.{AreStagesFor};
 ghost use Rattle.vcpu_core.specs.Lanes.{IsLooked, IsTrapped, IsWanting, after_turn, fill_row, look_row, mend_answer, mend_row, mend_view, seated, with_newest};
-ghost use Rattle.vcpu_core.specs.Placed.{IsPlaced};
+ghost use Rattle.vcpu_core.specs.Placed.{IsPlacedPhase};
 ghost use Rattle.vcpu_core.specs.Rows.{FillKeeps, LookKeeps, MendKeeps, TurnsKeep};
-ghost use Rattle.vcpu_core.specs.Turns.{IsPhaseAfter, board_after, ends_by, lane_after, turns_from, turns_of, verdict_for};
+ghost use Rattle.vcpu_core.specs.Turns.{IsPhaseAfter, board_after, turn_end_at, lane_after, turns_from, turns_of, verdict_for};
 
 use crate::lane::{Lane, Phase, Then, Turned};
 use arrayvec::ArrayVec;
@@ -53,7 +53,7 @@ fn take_step(board: &mut Board, views: &Views, stages: &[GTable], lane: &mut Lan
     requires stages { AreStagesFor board.old.state.ram (length views.now.apps + 1) stages.now }
     ensures board { board.new ≡ board_after views.now board.old lane.old }
     ensures lane { lane.new ≡ lane_after views.now board.old lane.old }
-    ensures answer { result ≡ ends_by (verdict_for views.now board.old lane.old) }
+    ensures answer { result ≡ turn_end_at (verdict_for views.now board.old lane.old) }
     ensures stages { AreStagesFor board.new.state.ram (length views.now.apps + 1) stages.now }
 {
     if !board.may(lane.vcpu) {
@@ -121,7 +121,7 @@ fn hold(held: &mut ArrayVec<Window, 4>, window: Window)
 pub fn fill(view: &View, lane: &mut Lane)
     requires phase { IsWanting lane.old.phase }
     requires view { view.now.number ≡ lane.old.windows.view }
-    requires placed { IsPlaced view.now.groups lane.old lane.old.phase }
+    requires placed { IsPlacedPhase view.now.groups lane.old lane.old.phase }
     ensures exact { lane.new ≡ fill_row view.now lane.old lane.old.phase }
     ensures kept { FillKeeps view.now lane.old lane.new }
 {
@@ -139,7 +139,7 @@ pub fn fill(view: &View, lane: &mut Lane)
 #[inline(never)]
 pub fn look_up(table: &Table, lane: &mut Lane)
     requires phase { IsTrapped lane.old.phase }
-    requires placed { IsPlaced table.now lane.old lane.old.phase }
+    requires placed { IsPlacedPhase table.now lane.old lane.old.phase }
     ensures exact { lane.new ≡ look_row table.now lane.old lane.old.phase }
     ensures kept { LookKeeps table.now lane.old lane.new }
 {
@@ -157,7 +157,7 @@ pub fn mend(view: &mut View, table: &Table, lane: &mut Lane) -> Patched
     requires phase { IsLooked lane.old.phase }
     requires view { view.old.number ≡ lane.old.windows.view }
     requires groups { view.old.groups ≡ table.now }
-    requires placed { IsPlaced table.now lane.old lane.old.phase }
+    requires placed { IsPlacedPhase table.now lane.old lane.old.phase }
     ensures view { view.new ≡ mend_view view.old lane.old.phase }
     ensures lane { lane.new ≡ mend_row table.now lane.old lane.old.phase }
     ensures answer { result ≡ mend_answer view.old lane.old.phase }

@@ -13,9 +13,9 @@ use Rattle.guest_board.specs.declared.slot.Slot.{Slot}
 use Rattle.guest_board.specs.Board.{Seat, State, made_of, may, next_start, no_slot, run_from, step_of}
 use Rattle.guest_board.specs.First.{first_slot, first_slots, first_state}
 use Rattle.guest_board.proofs.Idle.{idle_runs_have_ended}
-use Rattle.run_evidence.specs.Config.{Config, IsConfig, IsLawful, full, rules_in}
+use Rattle.run_evidence.specs.Config.{Config, IsConfig, IsLawfulSchedule, full, rules_in}
 use Rattle.run_evidence.specs.Evidence.{log_in}
-use Rattle.run_evidence.specs.Growing.{Begins, board_of, paged_at, views_count}
+use Rattle.run_evidence.specs.Growing.{Begins, board_of, paged_at, views_count, logs_of}
 use Rattle.run_evidence.specs.Sound.{IsSoundView}
 use Rattle.run_evidence.proofs.Growing.{stopped_stays}
 use Rattle.run_evidence.proofs.OneVcpu.{full-vcpus}
@@ -23,8 +23,8 @@ use Rattle.run_evidence.proofs.Steps.{step-is}
 use Rattle.turn_table.specs.declared.known.Known.{Known}
 use Rattle.turn_table.specs.Calls.{IsJoined, OwnsAll}
 use Rattle.turn_table.specs.Numbers.{Counts, at, either_count, times, together}
-use Rattle.turn_table.specs.Rule.{AreViews, IsTruthful, config_of, logs_of}
-use Rattle.turn_table.specs.Sound.{Log, IsEvidence, IsSound}
+use Rattle.turn_table.specs.Rule.{AreViews, IsTruthfulPass, config_of}
+use Rattle.turn_table.specs.Sound.{Log, IsEvidence, AreSoundLogs}
 use Rattle.turn_table.specs.Steps.{IsConsistent}
 use Rattle.turn_table.specs.declared.pass.Pass.{Pass}
 use Rattle.turn_table.specs.declared.pass.Turns.{Turns}
@@ -45,7 +45,7 @@ use Rattle.vcpu_core.proofs.Verdicts.{start-busy, verdict-may}
 use Rattle.vcpu_crew.specs.declared.round.Rounded.{Rounded}
 use Rattle.vcpu_crew.specs.declared.round.Rounded.TheVariants.{Went, Over}
 use Rattle.vcpu_crew.specs.declared.round.TheConstants.{TURN_LIMIT}
-use Rattle.vcpu_crew.specs.Round.{HasTurned, IsBetweenRounds, IsRound, answered}
+use Rattle.vcpu_crew.specs.Round.{HasTurned, IsBetweenRounds, IsRound, round_answer}
 use Rattle.vcpu_crew.specs.Crew.{AreFinished, AreWorkers, HasRun, HasRunAll, HasStopped, IsDoneWith, IsFinished, IsWholeRun, IsWorker}
 
 together_at : (c d : Counts) (i : ℕ) → length c ≡ length d → at (together c d) i ≡ either_count (at c i) (at d i)
@@ -59,15 +59,15 @@ either_right : (x y : Option ℕ) (n : ℕ) → y ≡ Some n → (k : ℕ) × (e
 either_right None y n e = (n, e)
 either_right (Some m) y n e = (m, refl)
 
-stop_stays : (c : Config) (h k : List ℕ) (i : ℕ) → HasStopped c h i → Begins h k → IsLawful c k → HasStopped c k i
-stop_stays c h k i stuck b l = subst (λ z. HasStopped c z i) (sym b.1) (stopped_stays c h b.0 i stuck (subst (λ z. IsLawful c z) b.1 l))
+stop_stays : (c : Config) (h k : List ℕ) (i : ℕ) → HasStopped c h i → Begins h k → IsLawfulSchedule c k → HasStopped c k i
+stop_stays c h k i stuck b l = subst (λ z. HasStopped c z i) (sym b.1) (stopped_stays c h b.0 i stuck (subst (λ z. IsLawfulSchedule c z) b.1 l))
 
 module _ (c : Config) (v w n : Known) (one : config_of v ≡ c) (two : config_of w ≡ c) (sure : IsConsistent v) (safe : IsConsistent w) (j : IsJoined v w n) where
   pub joined_config : config_of n ≡ c
   joined_config = j.config ∙ one
 
-  lawful : IsLawful c n.seen
-  lawful = subst (λ (d : Config). IsLawful d n.seen) joined_config j.consistent.lawful
+  lawful : IsLawfulSchedule c n.seen
+  lawful = subst (λ (d : Config). IsLawfulSchedule d n.seen) joined_config j.consistent.lawful
 
   long : length v.counts ≡ length w.counts
   long = sure.long ∙ (ap (λ (d : Config). d.setup.vcpus) (one ∙ sym two) ∙ sym safe.long)
@@ -130,7 +130,7 @@ some_end None not = absurd (not refl)
 some_end (Some e) not = refl
 
 -- the run of all workers has ended
-has_ended : (c : Config) (v : Known) (b : Seat) → IsConfig c → HasRunAll c c.setup.vcpus v → Begins v.seen b.schedule → IsLawful c b.schedule → b ≡ board_of c b.schedule → IsSome b.state.end
+has_ended : (c : Config) (v : Known) (b : Seat) → IsConfig c → HasRunAll c c.setup.vcpus v → Begins v.seen b.schedule → IsLawfulSchedule c b.schedule → b ≡ board_of c b.schedule → IsSome b.state.end
 has_ended c v b ok r front lawful is =
     subst (λ (d : Seat). IsSome d.state.end) (sym is) (some_end (full c b.schedule).end
     (ended_by c ok b.schedule (idle_all c b.schedule (λ i lt. stop_stays c v.seen b.schedule i (r.done i lt).stopped front lawful))))
@@ -140,7 +140,7 @@ view_sound c h log v p is e = subst (IsSoundView c h v) (sym is) record { number
 
 -- what closing the table gives, where the pass is done with every vCPU
 pub whole_run : (c : Config) (b : Seat) (ps : List PagedView) (v : Known) → IsConfig c → HasRunAll c c.setup.vcpus v → b ≡ board_of c b.schedule → length ps ≡ views_count c → AreViews c (logs_of ps) ps
-    → IsSound c b.schedule (logs_of ps) → IsTruthful c b.schedule (logs_of ps) v → IsWholeRun c b ps
+    → AreSoundLogs c b.schedule (logs_of ps) → IsTruthfulPass c b.schedule (logs_of ps) v → IsWholeRun c b ps
 whole_run c b ps v ok r is many views sound counted = record {
   board = is;
   ended = has_ended c v b ok r counted.seen sound.lawful is;
@@ -191,7 +191,7 @@ turn_stops views made (suc k) b l b' l' n e =
     (λ t. subst (λ (i : ℕ). may b'.rules b'.state i ≡ false) (after_vcpu b.state l.vcpu l (windows_for views b l) (verdict_for views b l)) (turn_stops views (made + 1) k (board_after views b l) (lane_after views b l) b' l' n t))
     (stuck_by (verdict_for views b l) made (board_after views b l) (lane_after views b l) (turns_from views (made + 1) k (board_after views b l) (lane_after views b l)) b' l' n e)
 
-over_then : (t : Then) → answered t ≡ Over → t ≡ then.Over
+over_then : (t : Then) → round_answer t ≡ Over → t ≡ then.Over
 over_then then.Limit e = absurd (cc)
 over_then then.Need e = absurd (cc)
 over_then then.Zero e = absurd (cc)

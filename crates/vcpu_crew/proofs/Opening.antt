@@ -4,11 +4,11 @@ use Rattle.std.proofs.lemmas.List.FromFn.{get_or-map-range_with_len, length-map-
 use Rattle.view_store.specs.Paged.{PagedView}
 use Rattle.guest_board.specs.Board.{Seat}
 use Rattle.guest_board.specs.First.{first_seat}
-use Rattle.run_evidence.specs.Config.{Config, IsConfig, full, groups_in}
+use Rattle.run_evidence.specs.Config.{Config, IsConfig, full, image_groups}
 use Rattle.run_evidence.specs.Evidence.{log_in}
-use Rattle.run_evidence.specs.Growing.{board_of, paged_at, views_count}
-use Rattle.turn_table.specs.Sound.{IsEvidence, IsSound}
-use Rattle.turn_table.specs.Rule.{AreViews, logs_of}
+use Rattle.run_evidence.specs.Growing.{board_of, paged_at, views_count, logs_of}
+use Rattle.turn_table.specs.Sound.{IsEvidence, AreSoundLogs}
+use Rattle.turn_table.specs.Rule.{AreViews}
 use Rattle.vcpu_core.specs.First.{first_paged, first_paged_views}
 use Rattle.vcpu_core.specs.Stages.{AreStagesFor}
 use Rattle.vcpu_crew.specs.declared.rig.Shared.{Shared}
@@ -20,7 +20,7 @@ pub record Opens (c : Config) (b : Seat) (ps : List PagedView) : Type 0 where
   pub board : b ≡ board_of c b.schedule
   pub many : length ps ≡ views_count c
   pub each : AreViews c (logs_of ps) ps
-  pub sound : IsSound c b.schedule (logs_of ps)
+  pub sound : AreSoundLogs c b.schedule (logs_of ps)
 
 empty_logs : (ps : List PagedView) → ((k : ℕ) (d : PagedView) → k < length ps → (get_or ps k d).log ≡ []) → (k : ℕ) → log_in (logs_of ps) k ≡ []
 empty_logs [] h k = refl
@@ -39,7 +39,7 @@ module _ (c : Config) where
   pub no_logs : (n k : ℕ) → log_in (logs_of (first_paged_views c n)) k ≡ []
   no_logs n k = empty_logs (first_paged_views c n) (λ j d lt. let long = fresh_long n in ap (λ (p : PagedView). p.log) (fresh_at n j d (omega arith))) k
 
-  fresh_sound : (n : ℕ) → IsSound c [] (logs_of (first_paged_views c n))
+  fresh_sound : (n : ℕ) → AreSoundLogs c [] (logs_of (first_paged_views c n))
   fresh_sound n = record {
     lawful = λ t lt. absurd (omega arith);
     evidence = λ v. subst (IsEvidence c [] v) (sym (no_logs n v)) record { of_view = tt; justified = tt; once = tt };
@@ -61,10 +61,10 @@ module _ (c : Config) where
       subst (λ (d : Seat). Opens c d ps) (sym start) (subst (λ qs. Opens c (board_of c []) qs) (sym fresh) (fresh_opens ok))
 
 -- what the workers share is that of the run
-pub equipped : (s : Shared) (c : Config) → IsConfig c → config_of_shared s ≡ c → s.table ≡ groups_in c → s.views ≡ c.views → AreStagesFor (full c []).ram (length s.views.apps + 1) s.stages.items → IsEquipped s
+pub equipped : (s : Shared) (c : Config) → IsConfig c → config_of_shared s ≡ c → s.table ≡ image_groups c → s.views ≡ c.views → AreStagesFor (full c []).ram (length s.views.apps + 1) s.stages.items → IsEquipped s
 equipped s c ok is table views stages = record {
   config = subst IsConfig (sym is) ok;
-  groups = table ∙ ap groups_in (sym is);
+  groups = table ∙ ap image_groups (sym is);
   views = views ∙ ap (λ (d : Config). d.views) (sym is);
   stages = subst (λ (d : Config). AreStagesFor (full d []).ram (length s.views.apps + 1) s.stages.items) (sym is) stages;
 }

@@ -11,7 +11,7 @@ use Rattle.view_store.specs.declared.view.Patched.{Patched}
 use Rattle.view_store.specs.declared.view.Patched.TheVariants.{Recovered, WasPresent}
 use Rattle.view_store.specs.Paged.{PagedView, logged}
 use Rattle.guest_board.specs.Board.{Seat}
-use Rattle.run_evidence.specs.Config.{Config, IsConfig, IsLawful, full, groups_in, view_in}
+use Rattle.run_evidence.specs.Config.{Config, IsConfig, IsLawfulSchedule, full, image_groups, view_in}
 use Rattle.run_evidence.specs.Evidence.{AreJustified, log_in}
 use Rattle.run_evidence.specs.Growing.{Begins, IsAllowedFrom, board_of, paged_at, views_count}
 use Rattle.turn_table.specs.declared.known.Known.{Known}
@@ -19,12 +19,12 @@ use Rattle.turn_table.specs.Calls.{IsOwnSteps, IsUnchanged, HasOneMore}
 use Rattle.turn_table.specs.Numbers.{Counts, at, grown, least, times}
 use Rattle.turn_table.specs.Sound.{Log, IsEvidence}
 use Rattle.turn_table.specs.Rule.{config_of}
-use Rattle.turn_table.specs.Steps.{own, told, with_board, with_view, after_board, after_view}
+use Rattle.turn_table.specs.Steps.{own, known_with, with_board, with_view, after_board, after_view}
 use Rattle.vcpu_core.specs.declared.lane.Lane.{Lane}
 use Rattle.vcpu_core.specs.declared.lane.Phase.{Phase}
 use Rattle.vcpu_core.specs.declared.lane.Phase.TheVariants.{Running, Wants, Trapped, Looked}
 use Rattle.vcpu_core.specs.declared.lane.Turned.{Turned}
-use Rattle.vcpu_core.specs.Placed.{IsPlaced}
+use Rattle.vcpu_core.specs.Placed.{IsPlacedPhase}
 use Rattle.vcpu_core.specs.Lanes.{IsLooked, IsTrapped, IsWanting, fill_row, look_row, mend_row, mend_view}
 use Rattle.vcpu_core.specs.Rows.{AreAllowedSteps, AreOfOthers, FillKeeps, TurnsKeep, LookKeeps, MendKeeps, IsMended, IsPatched}
 use Rattle.vcpu_core.specs.Truthful.{IsTruthful, IsOfView}
@@ -38,7 +38,7 @@ use Rattle.vcpu_core.proofs.Ready.{named-below}
 use Rattle.vcpu_crew.specs.declared.round.Rounded.{Rounded}
 use Rattle.vcpu_crew.specs.declared.round.TheConstants.{TURN_LIMIT}
 use Rattle.vcpu_crew.specs.declared.round.Rounded.TheVariants.{Went}
-use Rattle.vcpu_crew.specs.Round.{HasFilled, HasMended, HasTurned, IsBetweenRounds, IsRound, answered, with_log}
+use Rattle.vcpu_crew.specs.Round.{HasFilled, HasMended, HasTurned, IsBetweenRounds, IsRound, round_answer, with_log}
 
 none_some : {A : Type 0} (x : A) → None ≡ Some x → ⊥
 none_some x e = cc
@@ -106,7 +106,7 @@ grown_logs logs k log lt b j = dite (ℕ_discrete j k)
 -- what giving the board back asks
 pub record GivesBoard (m : Known) (b : Seat) : Type 0 where
   pub board : b ≡ board_of (config_of m) b.schedule
-  pub lawful : IsLawful (config_of m) b.schedule
+  pub lawful : IsLawfulSchedule (config_of m) b.schedule
   pub steps : IsOwnSteps m b.schedule
   pub allowed : IsAllowedFrom (config_of m) m.logs b.schedule (length m.seen)
 
@@ -131,10 +131,10 @@ module _ (c : Config) where
       subst (λ z. IsTruthful c z v.logs l) (sym b.1) (truthful_lanes_stay c v.seen b.0 v.logs v.logs l (others_of i b.0 none) (λ k. begins_whole (log_in v.logs k)) w.truthful)
 
   -- the steps of a turn on the board as it is taken
-  pub steps_allowed : (v : Known) (l l' : Lane) (b0 b : Seat) (views : Views) (n : ℕ) → IsConfig c → IsBetweenRounds c v l → views ≡ c.views → Begins v.seen b0.schedule → b0 ≡ board_of (config_of v) b0.schedule → IsLawful (config_of v) b0.schedule
+  pub steps_allowed : (v : Known) (l l' : Lane) (b0 b : Seat) (views : Views) (n : ℕ) → IsConfig c → IsBetweenRounds c v l → views ≡ c.views → Begins v.seen b0.schedule → b0 ≡ board_of (config_of v) b0.schedule → IsLawfulSchedule (config_of v) b0.schedule
       → ((k : ℕ) → IsEvidence (config_of v) b0.schedule k (log_in v.logs k)) → ((i steps : ℕ) → at v.counts i ≡ Some steps → steps ≡ times i b0.schedule) → TurnsKeep views b0 l b l' n → AreAllowedSteps c b0.schedule v.logs l.vcpu n b l'
   steps_allowed v l l' b0 b views n ok w same front is lawful evidence counted kept =
-      kept c b0.schedule v.logs ok (sym same) (is ∙ ap (λ (d : Config). board_of d b0.schedule) w.config) (subst (λ (d : Config). IsLawful d b0.schedule) w.config lawful)
+      kept c b0.schedule v.logs ok (sym same) (is ∙ ap (λ (d : Config). board_of d b0.schedule) w.config) (subst (λ (d : Config). IsLawfulSchedule d b0.schedule) w.config lawful)
       (of_config v w.config b0.schedule evidence) (taken_lane v l b0.schedule w front counted)
 
   -- the vCPU is one of the board's, and each view's table is for the board's memory
@@ -153,26 +153,26 @@ module _ (c : Config) where
       let now : b.schedule ≡ h ++ replicate n l.vcpu = ap (λ (d : Seat). d.schedule) a.board in
       subst (λ (x : Known). GivesBoard x b) (sym took) record {
         board = subst (λ (d : Config). b ≡ board_of d b.schedule) (sym w.config) (a.board ∙ ap (board_of c) (sym now));
-        lawful = subst (λ (d : Config). IsLawful d b.schedule) (sym w.config) (subst (λ z. IsLawful c z) (sym now) a.lawful);
+        lawful = subst (λ (d : Config). IsLawfulSchedule d b.schedule) (sym w.config) (subst (λ z. IsLawfulSchedule c z) (sym now) a.lawful);
         steps = (n, now ∙ ap (λ (k : ℕ). h ++ replicate n k) w.vcpu);
         allowed = subst (λ (d : Config). IsAllowedFrom d v.logs b.schedule (length h)) (sym w.config) (subst (λ z. IsAllowedFrom c v.logs z (length h)) (sym now) a.allowed);
       }
 
   -- the pass after n steps of its own from schedule h
   abbrev after_steps : Known → List ℕ → ℕ → Known
-  after_steps v h n = told v None (h ++ replicate n (own v)) v.logs (set v.counts (own v) (grown (at v.counts (own v)) n))
+  after_steps v h n = known_with v None (h ++ replicate n (own v)) v.logs (set v.counts (own v) (grown (at v.counts (own v)) n))
 
   steps_shape : (v m x : Known) (l l' : Lane) (h : List ℕ) (b : Seat) (n : ℕ) → IsBetweenRounds c v l → m ≡ with_board v h → AreAllowedSteps c h v.logs l.vcpu n b l' → x ≡ after_board m b.schedule → x ≡ after_steps v h n
   steps_shape v m x l l' h b n w took a gave =
       let now : b.schedule ≡ h ++ replicate n (own v) = ap (λ (d : Seat). d.schedule) a.board ∙ ap (λ (k : ℕ). h ++ replicate n k) w.vcpu in
       let longer : length (h ++ replicate n (own v)) - length h ≡ n = let p = length-append h (replicate n (own v)) in let q = copies_long n (own v) in omega arith in
       gave ∙ ap (λ y. after_board y b.schedule) took
-      ∙ ap (λ z. told v None z v.logs (set v.counts (own v) (grown (at v.counts (own v)) (length z - length h)))) now
-      ∙ ap (λ (k : ℕ). told v None (h ++ replicate n (own v)) v.logs (set v.counts (own v) (grown (at v.counts (own v)) k))) longer
+      ∙ ap (λ z. known_with v None z v.logs (set v.counts (own v) (grown (at v.counts (own v)) (length z - length h)))) now
+      ∙ ap (λ (k : ℕ). known_with v None (h ++ replicate n (own v)) v.logs (set v.counts (own v) (grown (at v.counts (own v)) k))) longer
 
   pub turn_did : (v m x : Known) (l l' : Lane) (h : List ℕ) (b0 b : Seat) (views : Views) (did : Turned) (answer : Rounded) → IsBetweenRounds c v l → Begins v.seen h → m ≡ with_board v h
       → b0 ≡ board_of (config_of v) h → views ≡ c.views → AreAllowedSteps c h v.logs l.vcpu did.steps b l' → x ≡ after_board m b.schedule
-      → turns_of views TURN_LIMIT b0 l ≡ record { board = b; lane = l'; answer = did } → answer ≡ answered did.then → HasTurned c v l x l' answer
+      → turns_of views TURN_LIMIT b0 l ≡ record { board = b; lane = l'; answer = did } → answer ≡ round_answer did.then → HasTurned c v l x l' answer
   turn_did v m x l l' h b0 b views did answer w front took start same a gave exact said = record {
     schedule = h;
     seen = front;
@@ -222,10 +222,10 @@ module _ (c : Config) where
   found_view v k log q same lt is = is ∙ (λ i. paged_at (same i) k (sym (log_here v.logs k log lt) i))
 
   -- a pass that gave view k back
-  pub view_shape : (v m x : Known) (w k : ℕ) (log log' : Log) → m ≡ with_view v w k log → x ≡ after_view m k log' → x ≡ told v None v.seen (set v.logs k log') v.counts
-  view_shape v m x w k log log' took gave = gave ∙ ap (λ y. after_view y k log') took ∙ ap (λ z. told v None v.seen z v.counts) (set_twice v.logs k log log')
+  pub view_shape : (v m x : Known) (w k : ℕ) (log log' : Log) → m ≡ with_view v w k log → x ≡ after_view m k log' → x ≡ known_with v None v.seen (set v.logs k log') v.counts
+  view_shape v m x w k log log' took gave = gave ∙ ap (λ y. after_view y k log') took ∙ ap (λ z. known_with v None v.seen z v.counts) (set_twice v.logs k log log')
 
-  pub view_between : (v x : Known) (l l' : Lane) (k : ℕ) (log : Log) → IsBetweenRounds c v l → x ≡ told v None v.seen (set v.logs k log) v.counts → l'.vcpu ≡ l.vcpu → IsTruthful c v.seen (set v.logs k log) l' → IsBetweenRounds c x l'
+  pub view_between : (v x : Known) (l l' : Lane) (k : ℕ) (log : Log) → IsBetweenRounds c v l → x ≡ known_with v None v.seen (set v.logs k log) v.counts → l'.vcpu ≡ l.vcpu → IsTruthful c v.seen (set v.logs k log) l' → IsBetweenRounds c x l'
   view_between v x l l' k log w is same t = subst (λ (y : Known). IsBetweenRounds c y l') (sym is) record {
     config = w.config;
     free = refl;
@@ -288,16 +288,16 @@ looked_stands p w q = subst IsLooked q w
 
 module _ (c : Config) where
   -- what a fill and a mend ask of the lane
-  pub fill_placed : (v : Known) (l : Lane) (q : PagedView) (k : ℕ) (log : Log) → IsBetweenRounds c v l → q ≡ paged_at (config_of v) k log → IsPlaced q.groups l l.phase
+  pub fill_placed : (v : Known) (l : Lane) (q : PagedView) (k : ℕ) (log : Log) → IsBetweenRounds c v l → q ≡ paged_at (config_of v) k log → IsPlacedPhase q.groups l l.phase
   fill_placed v l q k log w is =
-      let groups : q.groups ≡ groups_in c = ap (λ (p : PagedView). p.groups) is ∙ ap (λ (d : Config). groups_in d) w.config in
-      subst (λ (x : Groups). IsPlaced x l l.phase) (sym groups) (truthful_lanes_are_placed c v.seen v.logs l w.truthful)
+      let groups : q.groups ≡ image_groups c = ap (λ (p : PagedView). p.groups) is ∙ ap (λ (d : Config). image_groups d) w.config in
+      subst (λ (x : Groups). IsPlacedPhase x l l.phase) (sym groups) (truthful_lanes_are_placed c v.seen v.logs l w.truthful)
 
-  pub table_placed : (v : Known) (l : Lane) (t : Groups) → IsBetweenRounds c v l → t ≡ groups_in c → IsPlaced t l l.phase
-  table_placed v l t w is = subst (λ (x : Groups). IsPlaced x l l.phase) (sym is) (truthful_lanes_are_placed c v.seen v.logs l w.truthful)
+  pub table_placed : (v : Known) (l : Lane) (t : Groups) → IsBetweenRounds c v l → t ≡ image_groups c → IsPlacedPhase t l l.phase
+  table_placed v l t w is = subst (λ (x : Groups). IsPlacedPhase x l l.phase) (sym is) (truthful_lanes_are_placed c v.seen v.logs l w.truthful)
 
   -- a fill, and a view that is given back as it was
-  fill_shape : (v m x : Known) (k : ℕ) (q : PagedView) (log : Log) → m ≡ with_view v (k + 1) k log → q ≡ paged_at (config_of v) k log → x ≡ after_view m q.number q.log → x ≡ told v None v.seen (set v.logs k log) v.counts
+  fill_shape : (v m x : Known) (k : ℕ) (q : PagedView) (log : Log) → m ≡ with_view v (k + 1) k log → q ≡ paged_at (config_of v) k log → x ≡ after_view m q.number q.log → x ≡ known_with v None v.seen (set v.logs k log) v.counts
   fill_shape v m x k q log took is gave =
       let number : q.number ≡ k = ap (λ (p : PagedView). p.number) is in
       let entries : q.log ≡ log = ap (λ (p : PagedView). p.log) is in
@@ -334,11 +334,11 @@ module _ (c : Config) where
   mend_number : (v m : Known) (k : ℕ) (q : PagedView) (log : Log) → GivesView c m q → m ≡ with_view v (k + 1) k log → q.number ≡ k
   mend_number v m k q log g took = let e : Some (k + 1) ≡ Some (q.number + 1) = sym (ap (λ (y : Known). y.holds) took) ∙ g.taken in let n : k + 1 ≡ q.number + 1 = some_in e in omega arith
 
-  mend_shape : (v m x : Known) (k : ℕ) (q : PagedView) (log : Log) → GivesView c m q → m ≡ with_view v (k + 1) k log → x ≡ after_view m q.number q.log → x ≡ told v None v.seen (set v.logs k q.log) v.counts
+  mend_shape : (v m x : Known) (k : ℕ) (q : PagedView) (log : Log) → GivesView c m q → m ≡ with_view v (k + 1) k log → x ≡ after_view m q.number q.log → x ≡ known_with v None v.seen (set v.logs k q.log) v.counts
   mend_shape v m x k q log g took gave =
       view_shape c v m x (k + 1) k log q.log took (gave ∙ ap (λ (n : ℕ). after_view m n q.log) (mend_number v m k q log g took))
 
-  pub mend_did : (v m x : Known) (l l' : Lane) (p q : PagedView) (log : Log) → l.windows.view < views_count c → (t : Groups) (did : Patched) → IsConfig c → IsBetweenRounds c v l → t ≡ groups_in c → l.windows.view < length v.logs
+  pub mend_did : (v m x : Known) (l l' : Lane) (p q : PagedView) (log : Log) → l.windows.view < views_count c → (t : Groups) (did : Patched) → IsConfig c → IsBetweenRounds c v l → t ≡ image_groups c → l.windows.view < length v.logs
       → Begins (log_in v.logs l.windows.view) log → m ≡ with_view v (l.windows.view + 1) l.windows.view log → p ≡ paged_at (config_of v) l.windows.view log → MendKeeps p l q l' did
       → q ≡ mend_view p l.phase → l' ≡ mend_row t l l.phase → x ≡ after_view m q.number q.log → HasMended c v l x l'
   mend_did v m x l l' p q log below t did ok w same lt front took is kept view lane gave =
@@ -376,16 +376,16 @@ module _ (c : Config) where
   mended_round v l v' l' (Trapped t) is did = absurd is
   mended_round v l v' l' (Looked k) is did = (did, refl)
 
-  looked_round : (v : Known) (l l' : Lane) (p : Phase) → IsTrapped p → l' ≡ look_row (groups_in c) l l.phase → IsRound c v l p v l' Went
+  looked_round : (v : Known) (l l' : Lane) (p : Phase) → IsTrapped p → l' ≡ look_row (image_groups c) l l.phase → IsRound c v l p v l' Went
   looked_round v l l' Running is did = absurd is
   looked_round v l l' (Wants n) is did = absurd is
   looked_round v l l' (Trapped t) is did = (refl, did, refl)
   looked_round v l l' (Looked k) is did = absurd is
 
-  pub look_did : (v : Known) (l l' : Lane) (t : Groups) → t ≡ groups_in c → IsTrapped l.phase → l' ≡ look_row t l l.phase → IsRound c v l l.phase v l' Went
+  pub look_did : (v : Known) (l l' : Lane) (t : Groups) → t ≡ image_groups c → IsTrapped l.phase → l' ≡ look_row t l l.phase → IsRound c v l l.phase v l' Went
   look_did v l l' t same is exact = looked_round v l l' l.phase is (exact ∙ ap (λ (y : Groups). look_row y l l.phase) same)
 
-  pub look_between : (v : Known) (l l' : Lane) (t : Groups) → IsConfig c → t ≡ groups_in c → IsBetweenRounds c v l → l' ≡ look_row t l l.phase → LookKeeps t l l' → IsBetweenRounds c v l'
+  pub look_between : (v : Known) (l l' : Lane) (t : Groups) → IsConfig c → t ≡ image_groups c → IsBetweenRounds c v l → l' ≡ look_row t l l.phase → LookKeeps t l l' → IsBetweenRounds c v l'
   look_between v l l' t ok same w exact kept =
       let number : l'.vcpu ≡ l.vcpu = ap (λ (y : Lane). y.vcpu) exact ∙ look_vcpu t l l.phase in record {
         config = w.config;

@@ -10,7 +10,7 @@ use Rattle.turn_table.specs.declared.known.Known.{Known}
 use Rattle.turn_table.specs.declared.pass.Pass.{Pass}
 use Rattle.turn_table.specs.declared.pass.Turns.{Turns}
 use Rattle.turn_table.specs.Calls.{OwnsSeveral}
-use Rattle.turn_table.specs.Numbers.{Counts, at, alone, greatest, least, owns_some, times, without, counts_from}
+use Rattle.turn_table.specs.Numbers.{Counts, at, alone, greatest, least, owns_some, times, counts_without, counts_from}
 use Rattle.turn_table.specs.Sound.{Log}
 use Rattle.turn_table.specs.Passes.{IsPassOf, config_in, known}
 use Rattle.turn_table.specs.Steps.{first_known, greatest_alone, without_greatest}
@@ -115,10 +115,10 @@ module _ (c : Config) (v : Known) (n : ℕ) (o : OwnsBelow c (suc n) v) where
     free = refl;
     unseen = o.unseen;
     unlogged = o.unlogged;
-    below = λ i lt. subst (λ (g : ℕ). at (without v.counts g) i ≡ Some 0) (sym top) (set_else v.counts n i None (λ q. omega arith) ∙ o.below i (omega arith));
+    below = λ i lt. subst (λ (g : ℕ). at (counts_without v.counts g) i ≡ Some 0) (sym top) (set_else v.counts n i None (λ q. omega arith) ∙ o.below i (omega arith));
     above = λ i le. dite (ℕ_discrete i n)
-        (λ q. subst (λ (g : ℕ). at (without v.counts g) i ≡ None) (sym top) (subst (λ (k : ℕ). at (without v.counts n) k ≡ None) (sym q) (set_here v.counts n None top_within)))
-        (λ d. subst (λ (g : ℕ). at (without v.counts g) i ≡ None) (sym top) (set_else v.counts n i None d ∙ o.above i (omega arith)));
+        (λ q. subst (λ (g : ℕ). at (counts_without v.counts g) i ≡ None) (sym top) (subst (λ (k : ℕ). at (counts_without v.counts n) k ≡ None) (sym q) (set_here v.counts n None top_within)))
+        (λ d. subst (λ (g : ℕ). at (counts_without v.counts g) i ≡ None) (sym top) (set_else v.counts n i None d ∙ o.above i (omega arith)));
   }
 
   -- what is split off
@@ -132,18 +132,6 @@ module _ (c : Config) (v : Known) (n : ℕ) (o : OwnsBelow c (suc n) v) where
     alone = λ j d. subst (λ (g : ℕ). at (alone v.counts g) j ≡ None) (sym top) (set_else (replicate (length v.counts) None) n j (at v.counts n) d ∙ at_nones (length v.counts) j);
     lane = lane;
   }
-
--- the pass of the least number
-last_first : (c : Config) (v : Known) (l : Lane) → OwnsBelow c 1 v → l ≡ first_lane (view_named c.views c.setup.start) 0 → IsFirst c 0 v l
-last_first c v l o lane = record {
-  config = o.config;
-  free = o.free;
-  unseen = o.unseen;
-  unlogged = o.unlogged;
-  owned = o.below 0 (omega arith);
-  alone = λ j d. o.above j (omega arith);
-  lane = lane;
-}
 
 -- the last of these vCPUs is split off: its pass and its lane go before those of the vCPUs after it
 pub split_last : (t : Turns) (n view : ℕ) (before after last : Pass) (lane : Lane) (ws : List (Pass × Lane)) → let c : Config = config_in t in view ≡ view_named c.views c.setup.start

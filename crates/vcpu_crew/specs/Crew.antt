@@ -2,16 +2,16 @@
 use Rattle.std.specs.Prelude.{◌≡◌, ℕ, ◌<◌, false, Some, None, List, IsSome, length, slice_index_or}
 use Rattle.guest_board.specs.Board.{Seat, may}
 use Rattle.view_store.specs.Paged.{PagedView}
-use Rattle.run_evidence.specs.Config.{Config, IsLawful, full, rules_in}
+use Rattle.run_evidence.specs.Config.{Config, IsLawfulSchedule, full, rules_in}
 use Rattle.run_evidence.specs.Evidence.{IsAllowed}
-use Rattle.run_evidence.specs.Growing.{board_of, views_count}
+use Rattle.run_evidence.specs.Growing.{board_of, views_count, logs_of}
 use Rattle.run_evidence.specs.Sound.{IsSoundView}
 use Rattle.turn_table.specs.declared.known.Known.{Known}
 use Rattle.turn_table.specs.declared.pass.Pass.{Pass}
 use Rattle.turn_table.specs.declared.pass.Turns.{Turns}
 use Rattle.turn_table.specs.Calls.{OwnsAll}
 use Rattle.turn_table.specs.Numbers.{at}
-use Rattle.turn_table.specs.Rule.{IsTruthful, config_of, logs_of}
+use Rattle.turn_table.specs.Rule.{IsTruthfulPass, config_of}
 use Rattle.turn_table.specs.Steps.{IsConsistent}
 use Rattle.turn_table.specs.Passes.{IsPassOf, config_in, known}
 use Rattle.vcpu_core.specs.declared.lane.Lane.{Lane}
@@ -64,10 +64,10 @@ AreFinished t ws = (i : ℕ) (d : Pass × Lane) → i < length ws → IsFinished
 pub record IsWholeRun (c : Config) (b : Seat) (ps : List PagedView) : Type 0 where
   pub board : b ≡ board_of c b.schedule
   pub ended : IsSome b.state.end
-  pub lawful : IsLawful c b.schedule
+  pub lawful : IsLawfulSchedule c b.schedule
   pub numbered : length ps ≡ views_count c
   pub each : (v : ℕ) (d : PagedView) → v < length ps → IsSoundView c b.schedule v (slice_index_or ps v d)
   pub allowed : IsAllowed c (logs_of ps) b.schedule
   pub pass : Known
   pub owns : OwnsAll c.setup.vcpus pass
-  pub counted : IsTruthful c b.schedule (logs_of ps) pass
+  pub counted : IsTruthfulPass c b.schedule (logs_of ps) pass

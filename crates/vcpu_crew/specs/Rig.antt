@@ -1,7 +1,7 @@
 -- What a rig is: what its workers share, and each worker before its first round.
 use Rattle.std.specs.Prelude.{◌≡◌, ◌≢◌, ℕ, suc, ◌+◌, ◌<◌, ◌≤◌, Some, None, List, [], ◌∷◌, length}
 use Rattle.view_file.specs.Named.{view_named}
-use Rattle.run_evidence.specs.Config.{Config, IsConfig, full, groups_in}
+use Rattle.run_evidence.specs.Config.{Config, IsConfig, full, image_groups}
 use Rattle.run_evidence.specs.Evidence.{log_in}
 use Rattle.turn_table.specs.declared.known.Known.{Known}
 use Rattle.turn_table.specs.declared.pass.Pass.{Pass}
@@ -25,7 +25,7 @@ config_of_rig r = config_of_shared r.shared
 -- groups, views file and second-stage tables are those of the run, whose board and views the workers take
 pub record IsEquipped (s : Shared) : Type 0 where
   pub config : IsConfig (config_of_shared s)
-  pub groups : s.table ≡ groups_in (config_of_shared s)
+  pub groups : s.table ≡ image_groups (config_of_shared s)
   pub views : s.views ≡ (config_of_shared s).views
   pub stages : AreStagesFor (full (config_of_shared s) []).ram (length s.views.apps + 1) s.stages.items
 

@@ -3,13 +3,13 @@
 -- that wants a line takes its window of the view as it is taken; a trap is looked up; a mend is of the view as it is taken.
 use Rattle.std.specs.Prelude.{◌≡◌, ℕ, ◌<◌, ◌++◌, Some, None, List, replicate, slice_set}
 use Rattle.chain_log.specs.declared.entry.LogEntry.{LogEntry}
-use Rattle.run_evidence.specs.Config.{Config, groups_in}
+use Rattle.run_evidence.specs.Config.{Config, image_groups}
 use Rattle.run_evidence.specs.Evidence.{log_in}
 use Rattle.run_evidence.specs.Growing.{Begins, board_of, paged_at}
 use Rattle.turn_table.specs.declared.known.Known.{Known}
 use Rattle.turn_table.specs.Numbers.{at, grown, times}
 use Rattle.turn_table.specs.Rule.{config_of}
-use Rattle.turn_table.specs.Steps.{own, told}
+use Rattle.turn_table.specs.Steps.{own, known_with}
 use Rattle.vcpu_core.specs.declared.lane.Lane.{Lane}
 use Rattle.vcpu_core.specs.declared.lane.Phase.{Phase}
 use Rattle.vcpu_core.specs.declared.lane.Phase.TheVariants.{Running, Wants, Trapped, Looked}
@@ -34,11 +34,11 @@ pub record IsBetweenRounds (c : Config) (v : Known) (l : Lane) : Type 0 where
   pub truthful : IsTruthful c v.seen v.logs l
 
 -- a turn that could not make a step since the vCPU may not
-abbrev pub answered : Then → Rounded
-answered then.Limit = Went
-answered then.Need = Went
-answered then.Zero = Went
-answered then.Over = Over
+abbrev pub round_answer : Then → Rounded
+round_answer then.Limit = Went
+round_answer then.Need = Went
+round_answer then.Zero = Went
+round_answer then.Over = Over
 
 -- a turn on the board of a schedule that begins with the one seen: its steps are then seen after that schedule, and
 -- counted as the pass's own
@@ -47,12 +47,12 @@ pub record HasTurned (c : Config) (v : Known) (l : Lane) (v' : Known) (l' : Lane
   pub seen : Begins v.seen schedule
   pub did : Turned
   pub exact : turns_of c.views TURN_LIMIT (board_of c schedule) l ≡ record { board = board_of c v'.seen; lane = l'; answer = did }
-  pub pass : v' ≡ told v None (schedule ++ replicate did.steps (own v)) v.logs (slice_set v.counts (own v) (grown (at v.counts (own v)) did.steps))
-  pub answer_is : answer ≡ answered did.then
+  pub pass : v' ≡ known_with v None (schedule ++ replicate did.steps (own v)) v.logs (slice_set v.counts (own v) (grown (at v.counts (own v)) did.steps))
+  pub answer_is : answer ≡ round_answer did.then
 
 -- the pass after it gave the lane's view back with this log
 abbrev pub with_log : Known → Lane → List LogEntry → Known
-with_log v l log = told v None v.seen (slice_set v.logs l.windows.view log) v.counts
+with_log v l log = known_with v None v.seen (slice_set v.logs l.windows.view log) v.counts
 
 -- a fill from the lane's view, whose log begins with the one seen
 pub record HasFilled (c : Config) (v : Known) (l : Lane) (v' : Known) (l' : Lane) : Type 0 where
@@ -65,12 +65,12 @@ pub record HasFilled (c : Config) (v : Known) (l : Lane) (v' : Known) (l' : Lane
 pub record HasMended (c : Config) (v : Known) (l : Lane) (v' : Known) (l' : Lane) : Type 0 where
   pub log : List LogEntry
   pub seen : Begins (log_in v.logs l.windows.view) log
-  pub lane : l' ≡ mend_row (groups_in c) l l.phase
+  pub lane : l' ≡ mend_row (image_groups c) l l.phase
   pub pass : v' ≡ with_log v l (mend_view (paged_at c l.windows.view log) l.phase).log
 
 -- a round, by the lane's phase
 abbrev pub IsRound : Config → Known → Lane → Phase → Known → Lane → Rounded → Type 0
 IsRound c v l Running v' l' answer = HasTurned c v l v' l' answer
 IsRound c v l (Wants n) v' l' answer = HasFilled c v l v' l' × (answer ≡ Went)
-IsRound c v l (Trapped t) v' l' answer = (v' ≡ v) × (l' ≡ look_row (groups_in c) l l.phase) × (answer ≡ Went)
+IsRound c v l (Trapped t) v' l' answer = (v' ≡ v) × (l' ≡ look_row (image_groups c) l l.phase) × (answer ≡ Went)
 IsRound c v l (Looked k) v' l' answer = HasMended c v l v' l' × (answer ≡ Went)

@@ -1,7 +1,7 @@
 //! All workers, and the run that they made.
 
 ghost use Rattle.std.specs.Prelude.{◌≡◌, ◌<◌, length, vec_len};
-ghost use Rattle.run_evidence.specs.Config.{groups_in};
+ghost use Rattle.run_evidence.specs.Config.{image_groups};
 ghost use Rattle.turn_table.specs.Passes.{IsBeside, IsPassOf, config_in, known};
 ghost use Rattle.vcpu_crew.specs.Rig.{IsEquipped, IsRig, config_of_rig, config_of_shared};
 ghost use Rattle.vcpu_crew.specs.Round.{IsBetweenRounds};
@@ -108,7 +108,7 @@ fn joined(turns: &Turns, mut workers: Vec<(Pass, Lane)>) -> Pass
 pub fn crew_run<R: Threads + Wait + Sync, G: Gate>(rt: &R, rig: Rig, gate: &G) -> Ran
     requires { IsRig rig }
     ensures run { IsWholeRun (config_of_rig rig) result.board result.views.items }
-    ensures table { result.table ≡ groups_in (config_of_rig rig) }
+    ensures table { result.table ≡ image_groups (config_of_rig rig) }
     ensures profile { result.profile ≡ (config_of_rig rig).views }
 {
     let Rig {

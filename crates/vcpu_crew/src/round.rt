@@ -7,7 +7,7 @@ ghost use Rattle.vcpu_core.specs.declared.lane.Then.{Then};
 ghost use Rattle.vcpu_core.specs.Lanes.{IsLooked, IsTrapped, IsWanting};
 ghost use Rattle.vcpu_crew.specs.declared.round.Rounded.{Rounded};
 ghost use Rattle.vcpu_crew.specs.Rig.{IsEquipped, config_of_shared};
-ghost use Rattle.vcpu_crew.specs.Round.{IsBetweenRounds, IsRound, answered};
+ghost use Rattle.vcpu_crew.specs.Round.{IsBetweenRounds, IsRound, round_answer};
 
 use crate::rig::Shared;
 use fc_outside::gate::Gate;
@@ -29,7 +29,7 @@ pub enum Rounded {
 }
 
 fn answer_of(then: Then) -> Rounded
-    ensures { result ≡ answered then }
+    ensures { result ≡ round_answer then }
 {
     match then {
         Then::Over => Rounded::Over,

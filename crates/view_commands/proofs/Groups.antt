@@ -14,7 +14,7 @@ use Rattle.guest_input.specs.declared.image.Image.{Image}
 use Rattle.guest_input.specs.declared.image.Start.{Start}
 use Rattle.guest_input.specs.Accepted.{IsAscendingFrom, IsImage, IsStarts, starts_of}
 use Rattle.guest_input.specs.Text.{IsStartIn, flat_of, spans_of}
-use Rattle.function_table.specs.Groups.{Groups, IsGroups, group_at, group_in, groups_of, last_of, range_of, has_start, in_text, is_function}
+use Rattle.function_table.specs.Groups.{Groups, IsGroups, group_at, group_in, groups_of, last_of, range_of, has_start, in_groups_text, is_function}
 use Rattle.view_file.specs.Base.{group_of_start}
 
 abbrev is_one : List ℕ → ℕ → Bool
@@ -62,14 +62,14 @@ answered_offset t at offset one found = same_Some _ _ (found ∙ ap (λ b. if b 
 
 -- and the group that it answers for the place of that offset
 pub answered_group : OffsetOfPlace → PlacesAreInText → (t : Groups) (at : Start) (offset : ℕ) (spans : List Span) (place : ℕ) (answer : Option ℕ) → IsGroups t → is_function t at ≡ true
-    → offset ≡ flat_of t.text at → spans ≡ t.text → place ≡ place_in spans offset → answer ≡ (if in_text t place then Some (group_at t place) else None)
+    → offset ≡ flat_of t.text at → spans ≡ t.text → place ≡ place_in spans offset → answer ≡ (if in_groups_text t place then Some (group_at t place) else None)
     → answer ≡ Some (group_of_start t at)
 answered_group offsets inside t at offset spans place answer good one is text there found =
     let below : flat_of t.text at < text_size t.text = function_below t at good one in
     let here : place ≡ place_in t.text (flat_of t.text at) = there ∙ ap (λ l. place_in l offset) text ∙ ap (place_in t.text) is in
-    let within : in_text t (place_in t.text (flat_of t.text at)) ≡ true = inside t.text RAM_START (flat_of t.text at) good.text.ranges below in
+    let within : in_groups_text t (place_in t.text (flat_of t.text at)) ≡ true = inside t.text RAM_START (flat_of t.text at) good.text.ranges below in
     let group : group_at t (place_in t.text (flat_of t.text at)) ≡ group_of_start t at = ap (λ o. group_in t.starts o) (offsets t.text RAM_START (flat_of t.text at) good.text.ranges below) in
-    found ∙ ap (λ p. if in_text t p then Some (group_at t p) else None) here
+    found ∙ ap (λ p. if in_groups_text t p then Some (group_at t p) else None) here
     ∙ ap (λ b. if b then Some (group_at t (place_in t.text (flat_of t.text at))) else None) within ∙ ap (λ g. Some g) group
 
 last-high : (low size g : ℕ) (bs : List ℕ) → IsAscendingFrom low bs size → slice_index_or bs g size ≤ size

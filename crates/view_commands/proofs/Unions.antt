@@ -8,7 +8,7 @@ use Rattle.view_file.specs.declared.fault.ViewFault.TheVariants.{NotJson, Shape,
 use Rattle.view_file.specs.Union.{Merges}
 use Rattle.command_frame.specs.Command.{MakeCounts, MakesNothing}
 use Rattle.command_frame.specs.Files.{GivesFreeViews}
-use Rattle.command_frame.specs.Promise.{Told, held_by}
+use Rattle.command_frame.specs.Promise.{FileContents, held_by}
 use Rattle.command_frame.specs.declared.fault.Fault.TheVariants.{Views as OfViews}
 use Rattle.command_frame.specs.declared.product.Product.{Product}
 use Rattle.command_frame.specs.declared.product.Refusal.{Refusal}
@@ -25,7 +25,7 @@ by-fault TooManyApps other = refl
 by-fault BadName other = refl
 by-fault NoMemory other = absurd (other refl)
 
-module _ (words : List (List ℕ)) (at : Told) (a b : Views) (first : GivesFreeViews (held_by words at 1) a) (second : GivesFreeViews (held_by words at 2) b) where
+module _ (words : List (List ℕ)) (at : FileContents) (a b : Views) (first : GivesFreeViews (held_by words at 1) a) (second : GivesFreeViews (held_by words at 2) b) where
   named : (fault : ViewFault) → fault ≢ NoMemory → Merges a b (Err fault) → MakesNothing words at merge_promise (no.Fault (OfViews fault))
   named fault other refused = inr (a, first, (b, second, record { fault = fault; is = refl; named = other; refused = refused }))
 

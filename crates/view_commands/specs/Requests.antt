@@ -6,7 +6,7 @@ use Rattle.guest_input.specs.declared.setup.Setup.{Setup}
 use Rattle.view_file.specs.declared.views.Views.{Views}
 use Rattle.view_file.specs.declared.fault.ViewFault.{ViewFault}
 use Rattle.view_file.specs.declared.fault.ViewFault.TheVariants.{TooManyApps, NoMemory}
-use Rattle.view_file.specs.Text.{text_of}
+use Rattle.view_file.specs.Text.{text_of_views}
 use Rattle.view_file.specs.Union.{Merges}
 use Rattle.profiler.specs.Profile.{IsOverfull, IsProfiled, unviewed}
 use Rattle.profiler.specs.declared.profile.Profiled.{Profiled}
@@ -24,7 +24,7 @@ use Rattle.view_commands.specs.Show.{show_text}
 pub record IsProfileMade (image : Image) (setup : Setup) (p : Product) : Type 0 where
   pub profiled : Profiled
   pub is : IsProfiled (unviewed image setup) profiled
-  pub files : p.files ≡ file_of 3 (text_of profiled.views) ∷ []
+  pub files : p.files ≡ file_of 3 (text_of_views profiled.views) ∷ []
   pub out : p.out ≡ []
   pub ended : p.ended ≡ ended_of profiled.end
 
@@ -37,7 +37,7 @@ pub record IsProfileRefused (image : Image) (setup : Setup) (why : Fault) : Type
 pub record IsMergeMade (a b : Views) (p : Product) : Type 0 where
   pub union : Views
   pub is : Merges a b (Ok union)
-  pub files : p.files ≡ file_of 3 (text_of union) ∷ []
+  pub files : p.files ≡ file_of 3 (text_of_views union) ∷ []
   pub out : p.out ≡ []
   pub ended : p.ended ≡ Finished
 

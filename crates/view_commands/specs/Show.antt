@@ -16,12 +16,12 @@ abbrev pub has_group : List Bool → ℕ → Bool
 has_group base g = slice_index_or base g false
 
 -- the functions of the groups of a base
-abbrev pub functions_in : Groups → List Bool → List Function → ℕ
-functions_in t base functions = count_by (λ f. has_group base (group_of_start t f.at)) functions
+abbrev pub base_functions_count : Groups → List Bool → List Function → ℕ
+base_functions_count t base functions = count_by (λ f. has_group base (group_of_start t f.at)) functions
 
 -- the groups of a base
-abbrev pub groups_in : List Bool → ℕ
-groups_in base = count_by (λ b. b) base
+abbrev pub base_groups_count : List Bool → ℕ
+base_groups_count base = count_by (λ b. b) base
 
 -- their bytes
 abbrev pub bytes_in : Groups → List Bool → ℕ
@@ -30,7 +30,7 @@ bytes_in t base = sum_by (λ g. if has_group base g then size_of (range_of t g) 
 -- a name, and the sizes of a base
 abbrev pub base_line : Image → List ℕ → List Bool → List ℕ
 base_line i name base =
-    name ++ codes " " ++ decimal (functions_in (groups_of i) base i.functions) ++ codes " " ++ decimal (groups_in base) ++ codes " " ++ decimal (bytes_in (groups_of i) base) ++ codes "\n"
+    name ++ codes " " ++ decimal (base_functions_count (groups_of i) base i.functions) ++ codes " " ++ decimal (base_groups_count base) ++ codes " " ++ decimal (bytes_in (groups_of i) base) ++ codes "\n"
 
 -- the line of a view, with a name
 abbrev pub size_line : Image → Views → List ℕ → ℕ → List ℕ

@@ -1,7 +1,7 @@
 //! The command `merge`.
 
 ghost use Rattle.std.specs.Prelude.{◌≡◌, ℕ, List, Option, Some, true, false, map, string_bytes};
-ghost use Rattle.command_frame.specs.Promise.{Told};
+ghost use Rattle.command_frame.specs.Promise.{FileContents};
 ghost use Rattle.command_frame.specs.Command.{MakeSaid, MakeCounts, HasOutputs};
 ghost use Rattle.view_commands.specs.Words.{IsMergeForm};
 ghost use Rattle.view_commands.specs.Requests.{RefusesBy, merge_request};
@@ -52,7 +52,7 @@ pub fn make_merge<S: Store>(
     words: &[String],
     store: &mut S,
 ) -> Result<Product, Refusal>
-    ensures said { (told : Told) → S.files store.old ≡ Some told → MakeSaid (merge_request (map string_bytes words.now)) told result }
+    ensures said { (told : FileContents) → S.files store.old ≡ Some told → MakeSaid (merge_request (map string_bytes words.now)) told result }
     ensures counted { MakeCounts (merge_request (map string_bytes words.now)) (S.reads store.old) (S.reads store.new) result }
     ensures outputs { HasOutputs (merge_request (map string_bytes words.now)) result }
     ensures files { S.files store.new ≡ S.files store.old }

@@ -1,7 +1,7 @@
 //! The command `profile`.
 
 ghost use Rattle.std.specs.Prelude.{◌≡◌, ℕ, List, Option, Some, true, false, map, string_bytes};
-ghost use Rattle.command_frame.specs.Promise.{Told};
+ghost use Rattle.command_frame.specs.Promise.{FileContents};
 ghost use Rattle.command_frame.specs.Command.{MakeSaid, MakeCounts, HasOutputs};
 ghost use Rattle.view_commands.specs.Words.{IsProfileForm};
 ghost use Rattle.view_commands.specs.Requests.{profile_request};
@@ -42,7 +42,7 @@ pub fn make_profile<S: Store>(
     words: &[String],
     store: &mut S,
 ) -> Result<Product, Refusal>
-    ensures said { (told : Told) → S.files store.old ≡ Some told → MakeSaid (profile_request (map string_bytes words.now)) told result }
+    ensures said { (told : FileContents) → S.files store.old ≡ Some told → MakeSaid (profile_request (map string_bytes words.now)) told result }
     ensures counted { MakeCounts (profile_request (map string_bytes words.now)) (S.reads store.old) (S.reads store.new) result }
     ensures outputs { HasOutputs (profile_request (map string_bytes words.now)) result }
     ensures files { S.files store.new ≡ S.files store.old }

@@ -6,11 +6,11 @@ ghost use Rattle.function_table.specs.Groups.{groups_count, groups_of, is_functi
 ghost use Rattle.guest_input.specs.Accepted.{IsImage};
 ghost use Rattle.view_file.specs.Base.{group_of_start};
 ghost use Rattle.view_file.specs.Fits.{IsViewsFor};
-ghost use Rattle.command_frame.specs.Promise.{Told};
+ghost use Rattle.command_frame.specs.Promise.{FileContents};
 ghost use Rattle.command_frame.specs.Command.{MakeSaid, MakeCounts, HasOutputs};
 ghost use Rattle.view_commands.specs.Words.{IsShowForm};
 ghost use Rattle.view_commands.specs.Requests.{show_request};
-ghost use Rattle.view_commands.specs.Show.{base_line, bytes_in, functions_in, groups_in, has_group, show_text, size_line};
+ghost use Rattle.view_commands.specs.Show.{base_line, bytes_in, base_functions_count, base_groups_count, has_group, show_text, size_line};
 
 use command_frame::answer::Ended;
 use command_frame::inputs::{take_image, take_views};
@@ -63,7 +63,7 @@ fn group_of(table: &Table, at: Start) -> GroupNo
 fn count_functions(table: &Table, base: &[bool], functions: &[Function]) -> u64
     requires long { length base.now ≡ groups_count table.now }
     requires known { (k : ℕ) (d : Function) → k < length functions.now → is_function table.now (slice_index_or functions.now k d).at ≡ true }
-    ensures { result ≡ functions_in table.now base.now functions.now }
+    ensures { result ≡ base_functions_count table.now base.now functions.now }
 {
     let mut count = 0;
     for function in functions {
@@ -76,7 +76,7 @@ fn count_functions(table: &Table, base: &[bool], functions: &[Function]) -> u64
 
 /// How many groups the base has.
 fn count_groups(base: &[bool]) -> usize
-    ensures { result ≡ groups_in base.now }
+    ensures { result ≡ base_groups_count base.now }
 {
     base.iter().filter(|has| **has).count()
 }
@@ -192,7 +192,7 @@ pub fn make_show<S: Store>(
     words: &[String],
     store: &mut S,
 ) -> Result<Product, Refusal>
-    ensures said { (told : Told) → S.files store.old ≡ Some told → MakeSaid (show_request (map string_bytes words.now)) told result }
+    ensures said { (told : FileContents) → S.files store.old ≡ Some told → MakeSaid (show_request (map string_bytes words.now)) told result }
     ensures counted { MakeCounts (show_request (map string_bytes words.now)) (S.reads store.old) (S.reads store.new) result }
     ensures outputs { HasOutputs (show_request (map string_bytes words.now)) result }
     ensures files { S.files store.new ≡ S.files store.old }

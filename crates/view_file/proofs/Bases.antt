@@ -11,15 +11,15 @@ use Rattle.guest_input.specs.declared.image.Start.{Start}
 use Rattle.function_table.specs.Groups.{Groups, groups_count}
 use Rattle.view_file.specs.declared.views.App.{App}
 use Rattle.view_file.specs.declared.views.Views.{Views}
-use Rattle.view_file.specs.Base.{functions_of, group_of_start, holds_one, is_based, base_of, all_listed}
+use Rattle.view_file.specs.Base.{functions_of_app, group_of_start, holds_one, is_based, base_of, all_listed}
 
 -- the functions of the app at a place
-pub functions_of-at : (apps : List App) (n : ℕ) (d : App) → n < length apps → (slice_index_or apps n d).functions ≡ functions_of apps n
+pub functions_of-at : (apps : List App) (n : ℕ) (d : App) → n < length apps → (slice_index_or apps n d).functions ≡ functions_of_app apps n
 functions_of-at [] n d within = absurd (omega arith)
 functions_of-at (app ∷ apps) zero d within = refl
 functions_of-at (app ∷ apps) (suc n) d within = functions_of-at apps n d (omega arith)
 
-app-passes : (p : Start → Bool) (apps : List App) (n : ℕ) → list_all p (flat_map (λ app. app.functions) apps) ≡ true → list_all p (functions_of apps n) ≡ true
+app-passes : (p : Start → Bool) (apps : List App) (n : ℕ) → list_all p (flat_map (λ app. app.functions) apps) ≡ true → list_all p (functions_of_app apps n) ≡ true
 app-passes p [] n all = refl
 app-passes p (app ∷ apps) zero all =
     let parts : list_all p (app.functions ++ flat_map (λ a. a.functions) apps) ≡ (list_all p app.functions && list_all p (flat_map (λ a. a.functions) apps)) = list_all-append p _ _ in
@@ -30,7 +30,7 @@ app-passes p (app ∷ apps) (suc n) all =
     app-passes p apps n rest
 
 -- what holds of every listed function, holds of those of each app
-pub list_all-functions_of : (p : Start → Bool) (v : Views) (n : ℕ) → list_all p (all_listed v) ≡ true → list_all p (functions_of v.apps n) ≡ true
+pub list_all-functions_of : (p : Start → Bool) (v : Views) (n : ℕ) → list_all p (all_listed v) ≡ true → list_all p (functions_of_app v.apps n) ≡ true
 list_all-functions_of p v n all =
     let parts : list_all p (all_listed v) ≡ (list_all p v.shared && list_all p (flat_map (λ a. a.functions) v.apps)) = list_all-append p _ _ in
     let rest : list_all p (flat_map (λ a. a.functions) v.apps) ≡ true = grind (arith, parts) in
@@ -50,7 +50,7 @@ base_of-full v t number count is counted =
 
 -- an app's base: what both lists of functions marked
 pub base_of-marked : (v : Views) (t : Groups) (number count at : ℕ) (start first second : List Bool) (functions shared : List Start)
-    → number ≡ at + 1 → count ≡ groups_count t → start ≡ replicate count false → functions ≡ functions_of v.apps at → shared ≡ v.shared
+    → number ≡ at + 1 → count ≡ groups_count t → start ≡ replicate count false → functions ≡ functions_of_app v.apps at → shared ≡ v.shared
     → ((g : ℕ) → slice_index_or first g false ≡ (slice_index_or start g false || holds_one t functions g))
     → ((g : ℕ) → slice_index_or second g false ≡ (slice_index_or first g false || holds_one t shared g))
     → length second ≡ length start → second ≡ base_of v t number
@@ -58,12 +58,12 @@ base_of-marked v t number count at start first second functions shared is counte
     fill_by_all (is_based v t number) second (groups_count t) false (long ∙ ap length from ∙ length-replicate count false ∙ counted)
     (λ k below.
     let none : slice_index_or start k false ≡ false = ap (λ l. slice_index_or l k false) from ∙ get_or-replicate count k false false (omega arith) in
-    let parts : holds_one t (functions_of v.apps at ++ v.shared) k ≡ (holds_one t (functions_of v.apps at) k || holds_one t v.shared k) = list_any-append (λ at. group_of_start t at == k) _ _ in
+    let parts : holds_one t (functions_of_app v.apps at ++ v.shared) k ≡ (holds_one t (functions_of_app v.apps at) k || holds_one t v.shared k) = list_any-append (λ at. group_of_start t at == k) _ _ in
     let place : number - 1 ≡ at = omega arith in
     let test : (number == 0) ≡ false = grind (arith, nat_tests, is) in
     let e1 : slice_index_or first k false ≡ (slice_index_or start k false || holds_one t functions k) = one k in
     let e2 : slice_index_or second k false ≡ (slice_index_or first k false || holds_one t shared k) = two k in
-    let e3 : holds_one t functions k ≡ holds_one t (functions_of v.apps at) k = ap (λ l. holds_one t l k) mine in
+    let e3 : holds_one t functions k ≡ holds_one t (functions_of_app v.apps at) k = ap (λ l. holds_one t l k) mine in
     let e4 : holds_one t shared k ≡ holds_one t v.shared k = ap (λ l. holds_one t l k) ours in
     rw (test, place, parts) (grind (arith, none, e1, e2, e3, e4)))
 

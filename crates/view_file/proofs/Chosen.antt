@@ -10,17 +10,17 @@ use Rattle.view_file.specs.declared.written.Written.{Written}
 use Rattle.view_file.specs.declared.written.WrittenApp.{WrittenApp}
 use Rattle.view_file.specs.declared.fault.ViewFault.TheVariants.{TooManyApps}
 use Rattle.view_file.specs.Fits.{IsAppOf, AreAppsOf}
-use Rattle.view_file.specs.Written.{are_names, names_of, named_well}
+use Rattle.view_file.specs.Written.{are_names, written_names, named_well}
 
 pub same_length : (written : List WrittenApp) (apps : List App) → AreAppsOf written apps → length apps ≡ length written
 same_length written apps of = length_permutation of.found apps of.order ∙ AllZip-long IsAppOf written of.found of.each
 
-pub chosen_few : (w : Written) (apps : List App) → are_names (names_of w.apps) ≡ true → AreAppsOf w.apps apps → length apps ≤ APPS_MOST → named_well (Ok w) ≡ Ok w
+pub chosen_few : (w : Written) (apps : List App) → are_names (written_names w.apps) ≡ true → AreAppsOf w.apps apps → length apps ≤ APPS_MOST → named_well (Ok w) ≡ Ok w
 chosen_few w apps good of few =
     let test : nat_le (length w.apps) APPS_MOST ≡ true = grind (arith, nat_tests, same_length w.apps apps of) in
     rw (good, test) refl
 
-pub chosen_many : (w : Written) (apps : List App) → are_names (names_of w.apps) ≡ true → AreAppsOf w.apps apps → APPS_MOST < length apps → named_well (Ok w) ≡ Err TooManyApps
+pub chosen_many : (w : Written) (apps : List App) → are_names (written_names w.apps) ≡ true → AreAppsOf w.apps apps → APPS_MOST < length apps → named_well (Ok w) ≡ Err TooManyApps
 chosen_many w apps good of many =
     let test : nat_le (length w.apps) APPS_MOST ≡ false = grind (arith, nat_tests, same_length w.apps apps of) in
     rw (good, test) refl

@@ -11,7 +11,7 @@ use Rattle.fc_numbers.proofs.TextLaws.{offset_place, place_inside}
 use Rattle.guest_input.specs.declared.image.Start.{Start}
 use Rattle.guest_input.specs.Accepted.{IsAscendingFrom, IsStarts}
 use Rattle.guest_input.specs.Text.{flat_of}
-use Rattle.function_table.specs.Groups.{Groups, IsGroups, group_at, group_in, has_start, in_text, is_function}
+use Rattle.function_table.specs.Groups.{Groups, IsGroups, group_at, group_in, has_start, in_groups_text, is_function}
 use Rattle.view_file.specs.Base.{group_of_start}
 
 -- what stands for an item of a list where there is none
@@ -57,7 +57,7 @@ pub function_below : (t : Groups) (at : Start) → IsGroups t → is_function t 
 function_below t at good one = starts_below (text_size t.text) (flat_of t.text at) t.functions good.functions (both-right (has_start t.text at) (is_one t.functions (flat_of t.text at)) one)
 
 -- it has a place
-pub function_in_text : (t : Groups) (at : Start) → IsGroups t → is_function t at ≡ true → in_text t (place_in t.text (flat_of t.text at)) ≡ true
+pub function_in_text : (t : Groups) (at : Start) → IsGroups t → is_function t at ≡ true → in_groups_text t (place_in t.text (flat_of t.text at)) ≡ true
 function_in_text t at good one = place_inside t.text RAM_START (flat_of t.text at) good.text.ranges (function_below t at good one)
 
 -- whose group is its own
@@ -72,10 +72,10 @@ answered_offset t at offset one found = same_Some _ _ (found ∙ ap (λ b. if b 
 
 -- and the group that it answers for the place of that offset
 pub answered_group : (t : Groups) (at : Start) (offset : ℕ) (spans : List Span) (place : ℕ) (answer : Option ℕ) → IsGroups t → is_function t at ≡ true
-    → offset ≡ flat_of t.text at → spans ≡ t.text → place ≡ place_in spans offset → answer ≡ (if in_text t place then Some (group_at t place) else None)
+    → offset ≡ flat_of t.text at → spans ≡ t.text → place ≡ place_in spans offset → answer ≡ (if in_groups_text t place then Some (group_at t place) else None)
     → answer ≡ Some (group_of_start t at)
 answered_group t at offset spans place answer good one is text there found =
     let here : place ≡ place_in t.text (flat_of t.text at) = there ∙ ap (λ l. place_in l offset) text ∙ ap (place_in t.text) is in
-    found ∙ ap (λ p. if in_text t p then Some (group_at t p) else None) here
+    found ∙ ap (λ p. if in_groups_text t p then Some (group_at t p) else None) here
     ∙ ap (λ b. if b then Some (group_at t (place_in t.text (flat_of t.text at))) else None) (function_in_text t at good one)
     ∙ ap Some (group_of_place t at good one)

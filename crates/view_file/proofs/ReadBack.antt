@@ -22,7 +22,7 @@ use Rattle.view_file.specs.declared.written.WrittenApp.{WrittenApp}
 use Rattle.view_file.specs.Fits.{IsAppOf, AreAppsOf, IsViewsOf, Parses}
 use Rattle.view_file.specs.Lawful.{AreListedBy, IsViews, is_start}
 use Rattle.view_file.specs.Text.{app_data, apps_data, start_data, starts_data, views_data}
-use Rattle.view_file.specs.Written.{app_of, apps_of, are_names, digest_of, names_of, shaped_of, start_of, starts_of, written_of}
+use Rattle.view_file.specs.Written.{app_of, apps_of, are_names, written_digest, written_names, shaped_of, written_start, written_starts, written_of}
 use Rattle.view_file.proofs.Apart.{names_well}
 use Rattle.view_file.proofs.Chosen.{chosen_few}
 use Rattle.view_file.proofs.Functions.{both-left, both-right}
@@ -34,17 +34,17 @@ app_written app = record { name = app.name; functions = app.functions }
 abbrev pub views_written : Views → Written
 views_written v = record { text = v.text; shared = v.shared; apps = map app_written v.apps }
 
-start_back : (at : Start) → is_start at ≡ true → start_of Two (start_data at) ≡ Some at
-unfolding start_of
+start_back : (at : Start) → is_start at ≡ true → written_start Two (start_data at) ≡ Some at
+unfolding written_start
 start_back at good = ap (λ b. if b then Some at else None) good
 
-each_start_back : (starts : List Start) → list_all is_start starts ≡ true → each_of (start_of Two) (list_of (items_of (map start_data starts))) ≡ Some starts
+each_start_back : (starts : List Start) → list_all is_start starts ≡ true → each_of (written_start Two) (list_of (items_of (map start_data starts))) ≡ Some starts
 each_start_back [] good = refl
 each_start_back (at ∷ starts) good =
     rw (start_back at (both-left (is_start at) (list_all is_start starts) good), each_start_back starts (both-right (is_start at) (list_all is_start starts) good)) refl
 
-starts_back : (starts : List Start) → list_all is_start starts ≡ true → starts_of Two (starts_data starts) ≡ Some starts
-unfolding starts_of
+starts_back : (starts : List Start) → list_all is_start starts ≡ true → written_starts Two (starts_data starts) ≡ Some starts
+unfolding written_starts
 starts_back starts good = each_start_back starts good
 
 app_back : (app : App) → list_all is_start app.functions ≡ true → app_of Two (app_data app) ≡ Some (app_written app)
@@ -59,8 +59,8 @@ apps_back : (apps : List App) → AreListedBy apps → apps_of Two (apps_data ap
 unfolding apps_of
 apps_back apps good = each_app_back apps good
 
-digest_back : (text : List ℕ) → length text ≡ 32 → IsBytes text → digest_of (string (encode_lower text)) ≡ Some text
-unfolding digest_of
+digest_back : (text : List ℕ) → length text ≡ 32 → IsBytes text → written_digest (string (encode_lower text)) ≡ Some text
+unfolding written_digest
 digest_back text long bytes = ap result_ok (decode_sized-encode_lower text 32 long bytes)
 
 views_back : (v : Views) → IsViews v → written_of (views_data v) ≡ Some (views_written v)
@@ -71,7 +71,7 @@ each_written : (apps : List App) → AreListedBy apps → AllZip IsAppOf (map ap
 each_written [] good = tt
 each_written (app ∷ apps) good = (record { name = refl; functions = record { ascending = good.0.ascending; same = λ at. refl } }, each_written apps good.1)
 
-same_names : (apps : List App) → names_of (map app_written apps) ≡ map (λ (app : App). app.name) apps
+same_names : (apps : List App) → written_names (map app_written apps) ≡ map (λ (app : App). app.name) apps
 same_names [] = refl
 same_names (app ∷ apps) = ap (λ l. app.name ∷ l) (same_names apps)
 
@@ -96,7 +96,7 @@ pub reads_back : (bytes : List ℕ) (v : Views) → IsViews v → IsUtf8 bytes �
 unfolding json_of
 reads_back bytes v good text is =
     let json : json_of bytes ≡ Some (views_data v) = rw (is_utf8-from_IsUtf8 bytes text) is in
-    let names : are_names (names_of (map app_written v.apps)) ≡ true =
+    let names : are_names (written_names (map app_written v.apps)) ≡ true =
     names_well (map app_written v.apps) v.apps v.apps (ap (list_all is_app_name) (same_names v.apps) ∙ good.names) (each_written v.apps good.functions) (IsPermutation-refl v.apps) good.ascending in (
       views_written v,
       rw (shaped_back bytes v good json) (chosen_few (views_written v) v.apps names (apps_written v good) good.few),

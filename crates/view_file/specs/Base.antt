@@ -9,14 +9,14 @@ use Rattle.view_file.specs.declared.views.App.{App}
 use Rattle.view_file.specs.declared.views.Views.{Views}
 
 -- the functions of app n, counted from 0
-abbrev pub functions_of : List App → ℕ → List Start
-functions_of [] n = []
-functions_of (app ∷ apps) zero = app.functions
-functions_of (app ∷ apps) (suc n) = functions_of apps n
+abbrev pub functions_of_app : List App → ℕ → List Start
+functions_of_app [] n = []
+functions_of_app (app ∷ apps) zero = app.functions
+functions_of_app (app ∷ apps) (suc n) = functions_of_app apps n
 
 -- the functions listed for view n, from 1 on: those of its app and the shared ones
 abbrev pub listed_for : Views → ℕ → List Start
-listed_for v number = functions_of v.apps (number - 1) ++ v.shared
+listed_for v number = functions_of_app v.apps (number - 1) ++ v.shared
 
 -- every listed function
 abbrev pub all_listed : Views → List Start

@@ -11,10 +11,10 @@ abbrev pub position_of : List ℕ → List App → Option ℕ
 position_of name apps = position (λ app. bytes_eq app.name name) apps
 
 -- the view after the place of its app
-abbrev pub view_at : Option ℕ → ℕ
-view_at None = 0
-view_at (Some at) = at + 1
+abbrev pub view_of_position : Option ℕ → ℕ
+view_of_position None = 0
+view_of_position (Some at) = at + 1
 
 abbrev pub view_named : Views → Option (List ℕ) → ℕ
 view_named v None = 0
-view_named v (Some name) = view_at (position_of name v.apps)
+view_named v (Some name) = view_of_position (position_of name v.apps)

@@ -31,5 +31,5 @@ views_object apps shared text = object (member (codes "apps") apps (member (code
 abbrev pub views_data : Views → Data
 views_data v = views_object (apps_data v.apps) (starts_data v.shared) (string (encode_lower v.text))
 
-abbrev pub text_of : Views → List ℕ
-text_of v = compact_text (views_data v)
+abbrev pub text_of_views : Views → List ℕ
+text_of_views v = compact_text (views_data v)

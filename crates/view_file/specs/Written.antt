@@ -11,7 +11,7 @@ use Rattle.serde_json.specs.Data.{Data}
 use Rattle.fc_numbers.specs.Names.{is_app_name}
 use Rattle.fc_numbers.specs.declared.spans.TheConstants.{RANGES_MOST}
 use Rattle.guest_input.specs.declared.image.Start.{Start}
-use Rattle.json_fields.specs.Fields.{json_of, has_only_keys, whole_of, text_of, array_of, pair_of, each_of}
+use Rattle.json_fields.specs.Fields.{json_of, has_only_keys, whole_of, string_of, array_of, pair_of, each_of}
 use Rattle.json_fields.specs.Members.{member_as}
 use Rattle.view_file.specs.declared.views.TheConstants.{APPS_MOST}
 use Rattle.view_file.specs.declared.fault.ViewFault.{ViewFault}
@@ -41,23 +41,23 @@ start_of_both both = do
   start_in range offset
 
 -- a function: an offset in range 0, or a range and an offset in it
-unfoldable pub start_of : Version → Data → Option Start
-start_of One d = option_and_then (start_in 0) (whole_of d)
-start_of Two d = option_and_then start_of_both (pair_of d)
+unfoldable pub written_start : Version → Data → Option Start
+written_start One d = option_and_then (start_in 0) (whole_of d)
+written_start Two d = option_and_then start_of_both (pair_of d)
 
-unfoldable pub starts_of : Version → Data → Option (List Start)
-starts_of version d = option_and_then (each_of (start_of version)) (array_of d)
+unfoldable pub written_starts : Version → Data → Option (List Start)
+written_starts version d = option_and_then (each_of (written_start version)) (array_of d)
 
 -- the 32 bytes of 64 hexadecimal digits
-unfoldable pub digest_of : Data → Option (List ℕ)
-digest_of d = option_and_then (λ digits. result_ok (decode_sized digits 32)) (text_of d)
+unfoldable pub written_digest : Data → Option (List ℕ)
+written_digest d = option_and_then (λ digits. result_ok (decode_sized digits 32)) (string_of d)
 
 -- an app: its name, whatever it is, and its functions
 unfoldable pub app_of : Version → Data → Option WrittenApp
 app_of version d = do
   known ← when (has_only_keys (codes "functions" ∷ codes "name" ∷ []) d)
-  name ← member_as text_of (codes "name") d
-  functions ← member_as (starts_of version) (codes "functions") d
+  name ← member_as string_of (codes "name") d
+  functions ← member_as (written_starts version) (codes "functions") d
   Some (record { name = name; functions = functions })
 
 unfoldable pub apps_of : Version → Data → Option (List WrittenApp)
@@ -74,13 +74,13 @@ unfoldable pub written_of : Data → Option Written
 written_of d = do
   known ← when (has_only_keys (codes "apps" ∷ codes "shared" ∷ codes "text" ∷ codes "version" ∷ []) d)
   version ← member_as version_of (codes "version") d
-  text ← member_as digest_of (codes "text") d
-  shared ← member_as (starts_of version) (codes "shared") d
+  text ← member_as written_digest (codes "text") d
+  shared ← member_as (written_starts version) (codes "shared") d
   apps ← member_as (apps_of version) (codes "apps") d
   Some (record { text = text; shared = shared; apps = apps })
 
-abbrev pub names_of : List WrittenApp → List (List ℕ)
-names_of apps = map (λ app. app.name) apps
+abbrev pub written_names : List WrittenApp → List (List ℕ)
+written_names apps = map (λ app. app.name) apps
 
 -- app names, each of them once
 abbrev pub are_names : List (List ℕ) → Bool
@@ -101,7 +101,7 @@ shaped_of bytes = or_not_json (json_of bytes)
 -- the same where each app has a name of its own and there are few enough apps
 abbrev pub named_well : Result Written ViewFault → Result Written ViewFault
 named_well (Err fault) = Err fault
-named_well (Ok w) = if are_names (names_of w.apps) then (if nat_le (length w.apps) APPS_MOST then Ok w else Err TooManyApps) else Err BadName
+named_well (Ok w) = if are_names (written_names w.apps) then (if nat_le (length w.apps) APPS_MOST then Ok w else Err TooManyApps) else Err BadName
 
 -- what the bytes write, or the first fault
 abbrev pub writing_of : List ℕ → Result Written ViewFault

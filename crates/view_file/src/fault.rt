@@ -48,9 +48,9 @@ impl From<AllocError> for ViewFault {
 
 impl Display for ViewFault {
     ghost use Rattle.std.specs.Prelude.{Some};
-    ghost use Rattle.view_file.specs.Faults.{shown_fault};
+    ghost use Rattle.view_file.specs.Faults.{shown_views_fault};
 
-    ghost output = { λ fault. Some (shown_fault fault) };
+    ghost output = { λ fault. Some (shown_views_fault fault) };
 
     fn fmt<W: Write>(&self, f: &mut Formatter<W>) -> fmt::Result {
         match self {

@@ -3,7 +3,7 @@
 ghost use Rattle.std.specs.Prelude.{◌≡◌, ◌≤◌, ◌<◌, ◌+◌, ◌||◌, ℕ, true, false, length, [], IfOk, IfSome, MatchOption, slice_index_or, option_copied, replicate};
 ghost use Rattle.std.specs.List.{list_all};
 ghost use Rattle.function_table.specs.Groups.{groups_count, is_function};
-ghost use Rattle.view_file.specs.Base.{all_listed, base_of, functions_of, group_of_start, holds_one};
+ghost use Rattle.view_file.specs.Base.{all_listed, base_of, functions_of_app, group_of_start, holds_one};
 ghost use Rattle.view_file.specs.Named.{view_named, position_of};
 ghost use Rattle.view_file.specs.declared.views.TheConstants.{APPS_MOST};
 
@@ -110,7 +110,7 @@ fn filled(alloc: Global, truth: bool, count: usize) -> Result<Vec<bool>, NoMemor
 
 fn functions_at(apps: &[App], at: usize) -> &[Start]
     requires { at < length apps.now }
-    ensures { result.now ≡ functions_of apps.now at }
+    ensures { result.now ≡ functions_of_app apps.now at }
 {
     apps[at].functions.as_slice()
 }

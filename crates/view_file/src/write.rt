@@ -5,7 +5,7 @@ ghost use Rattle.serde_json.specs.Data.{string};
 ghost use Rattle.serde_json.specs.View.{view};
 ghost use Rattle.view_file.specs.Fits.{Parses};
 ghost use Rattle.view_file.specs.Lawful.{IsViews};
-ghost use Rattle.view_file.specs.Text.{app_data, apps_data, start_data, starts_data, text_of, views_data, views_object};
+ghost use Rattle.view_file.specs.Text.{app_data, apps_data, start_data, starts_data, text_of_views, views_data, views_object};
 
 use crate::views::{App, Views};
 use fc_numbers::memory::NoMemory;
@@ -86,7 +86,7 @@ fn views_value(alloc: Global, views: &Views) -> Result<Value, NoMemory>
 /// The text of these views, as a file of version 2. It reads back as these views.
 #[tactic(auto, using(crate::proofs::Texts::no_float))]
 pub fn write_views(alloc: Global, views: &Views) -> Result<Vec<u8>, NoMemory>
-    ensures text { IfOk result (λ bytes. bytes.items ≡ text_of views.now) }
+    ensures text { IfOk result (λ bytes. bytes.items ≡ text_of_views views.now) }
     ensures reads_back { IfOk result (λ bytes. IsViews views.now → Parses bytes.items (Ok views.now)) }
 {
     let value = views_value(alloc, views)?;

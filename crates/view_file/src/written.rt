@@ -2,10 +2,10 @@
 
 ghost use Rattle.std.specs.Prelude.{◌≡◌, ◌≢◌, ◌↔◌, IsTrue, IfOk, IfErr, Ok, Err, Some, None, codes, map, option_map, length};
 ghost use Rattle.serde_json.specs.View.{view};
-ghost use Rattle.json_fields.specs.Fields.{whole_of, text_of, json_of, each_of};
+ghost use Rattle.json_fields.specs.Fields.{whole_of, string_of, json_of, each_of};
 ghost use Rattle.json_fields.specs.Members.{member_as};
 ghost use Rattle.json_fields.specs.declared.misfit.Misfit.TheVariants.{Form};
-ghost use Rattle.view_file.specs.Written.{start_in, start_of, starts_of, digest_of, app_of, apps_of, version_of, written_of, shaped_of, Fails};
+ghost use Rattle.view_file.specs.Written.{start_in, written_start, written_starts, written_digest, app_of, apps_of, version_of, written_of, shaped_of, Fails};
 ghost use Rattle.view_file.specs.declared.fault.ViewFault.TheVariants.{NotJson, Shape};
 ghost use Rattle.view_file.specs.declared.written.Version.TheVariants.{One, Two};
 
@@ -59,23 +59,23 @@ fn start_at(range: u64, offset: u64) -> Option<Start>
     })
 }
 
-#[tactic(auto, unfolding(crate::specs::Written::start_of))]
+#[tactic(auto, unfolding(crate::specs::Written::written_start))]
 fn start_one(value: &Value) -> Option<Start>
-    ensures { result ≡ start_of One (view value.now) }
+    ensures { result ≡ written_start One (view value.now) }
 {
     start_at(0, whole(value)?)
 }
 
-#[tactic(auto, unfolding(crate::specs::Written::start_of))]
+#[tactic(auto, unfolding(crate::specs::Written::written_start))]
 fn start_two(value: &Value) -> Option<Start>
-    ensures { result ≡ start_of Two (view value.now) }
+    ensures { result ≡ written_start Two (view value.now) }
 {
     let (range, offset) = pair(value)?;
     start_at(whole(range)?, whole(offset)?)
 }
 
 fn start(version: Version, value: &Value) -> Option<Start>
-    ensures { result ≡ start_of version (view value.now) }
+    ensures { result ≡ written_start version (view value.now) }
 {
     match version {
         Version::One => start_one(value),
@@ -84,8 +84,8 @@ fn start(version: Version, value: &Value) -> Option<Start>
 }
 
 fn each_start(alloc: Global, version: Version, items: &[Value]) -> Result<Items<Start>, Misfit>
-    ensures ok { IfOk result (λ found. each_of (start_of version) (map view items.now) ≡ Some found) }
-    ensures err { IfErr result (λ misfit. misfit ≡ Form → each_of (start_of version) (map view items.now) ≡ None) }
+    ensures ok { IfOk result (λ found. each_of (written_start version) (map view items.now) ≡ Some found) }
+    ensures err { IfErr result (λ misfit. misfit ≡ Form → each_of (written_start version) (map view items.now) ≡ None) }
 {
     let mut found = Items::new(alloc);
     for item in items {
@@ -95,18 +95,18 @@ fn each_start(alloc: Global, version: Version, items: &[Value]) -> Result<Items<
     Ok(found)
 }
 
-#[tactic(auto, unfolding(crate::specs::Written::starts_of))]
+#[tactic(auto, unfolding(crate::specs::Written::written_starts))]
 fn starts(alloc: Global, version: Version, value: &Value) -> Result<Items<Start>, Misfit>
-    ensures ok { IfOk result (λ found. starts_of version (view value.now) ≡ Some found) }
-    ensures err { IfErr result (λ misfit. misfit ≡ Form → starts_of version (view value.now) ≡ None) }
+    ensures ok { IfOk result (λ found. written_starts version (view value.now) ≡ Some found) }
+    ensures err { IfErr result (λ misfit. misfit ≡ Form → written_starts version (view value.now) ≡ None) }
 {
     let items = array(value).ok_or(Misfit::Form)?;
     each_start(alloc, version, items)
 }
 
-#[tactic(auto, unfolding(crate::specs::Written::digest_of))]
+#[tactic(auto, unfolding(crate::specs::Written::written_digest))]
 fn digest(value: &Value) -> Option<[u8; 32]>
-    ensures { result ≡ digest_of (view value.now) }
+    ensures { result ≡ written_digest (view value.now) }
 {
     match text(value) {
         Some(digits) => <[u8; 32] as FromHex>::from_hex(digits).ok(),
@@ -120,24 +120,24 @@ fn starts_at(
     value: &Value,
     key: &str,
 ) -> Result<Items<Start>, Misfit>
-    ensures ok { IfOk result (λ found. member_as (starts_of version) key.now (view value.now) ≡ Some found) }
-    ensures err { IfErr result (λ misfit. misfit ≡ Form → member_as (starts_of version) key.now (view value.now) ≡ None) }
+    ensures ok { IfOk result (λ found. member_as (written_starts version) key.now (view value.now) ≡ Some found) }
+    ensures err { IfErr result (λ misfit. misfit ≡ Form → member_as (written_starts version) key.now (view value.now) ≡ None) }
 {
     let found = member(value, key).ok_or(Misfit::Form)?;
     starts(alloc, version, found)
 }
 
 fn bytes_of(alloc: Global, value: &Value) -> Result<Items<u8>, Misfit>
-    ensures ok { IfOk result (λ found. text_of (view value.now) ≡ Some found) }
-    ensures err { IfErr result (λ misfit. misfit ≡ Form → text_of (view value.now) ≡ None) }
+    ensures ok { IfOk result (λ found. string_of (view value.now) ≡ Some found) }
+    ensures err { IfErr result (λ misfit. misfit ≡ Form → string_of (view value.now) ≡ None) }
 {
     let text = text(value).ok_or(Misfit::Form)?;
     Ok(Items::from_slice(alloc, text.as_bytes())?)
 }
 
 fn name_at(alloc: Global, value: &Value) -> Result<Items<u8>, Misfit>
-    ensures ok { IfOk result (λ found. member_as text_of (codes "name") (view value.now) ≡ Some found) }
-    ensures err { IfErr result (λ misfit. misfit ≡ Form → member_as text_of (codes "name") (view value.now) ≡ None) }
+    ensures ok { IfOk result (λ found. member_as string_of (codes "name") (view value.now) ≡ Some found) }
+    ensures err { IfErr result (λ misfit. misfit ≡ Form → member_as string_of (codes "name") (view value.now) ≡ None) }
 {
     let found = member(value, "name").ok_or(Misfit::Form)?;
     bytes_of(alloc, found)
@@ -186,7 +186,7 @@ fn apps_at(alloc: Global, version: Version, value: &Value) -> Result<Items<Writt
 }
 
 fn digest_at(value: &Value) -> Option<[u8; 32]>
-    ensures { result ≡ member_as digest_of (codes "text") (view value.now) }
+    ensures { result ≡ member_as written_digest (codes "text") (view value.now) }
 {
     match member(value, "text") {
         Some(found) => digest(found),

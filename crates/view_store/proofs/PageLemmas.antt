@@ -13,7 +13,7 @@ use Rattle.fc_numbers.specs.declared.places.TheConstants.{RAM_START}
 use Rattle.fc_numbers.specs.Spans.{AreRangesFrom, end_in, offset_in, place_in, size_of, text_size}
 use Rattle.fc_numbers.specs.declared.window.Window.{Window}
 use Rattle.fc_numbers.proofs.TextLaws.{end_near, offset_page, offset_place, size_pages}
-use Rattle.function_table.specs.Groups.{Groups, IsGroups, IsRangeOf, first_of, group_in, groups_count, half_of, in_text, is_between, range_of}
+use Rattle.function_table.specs.Groups.{Groups, IsGroups, IsRangeOf, first_of, group_in, groups_count, half_of, in_groups_text, is_between, range_of}
 use Rattle.function_table.proofs.GroupLemmas.{ends-within}
 use Rattle.chain_log.specs.declared.entry.LogEntry.{LogEntry}
 use Rattle.view_store.specs.Paged.{PagedView, masked, logged, patched, is_present, is_logged, AreMissed, IsLawfulView, WindowsAreOfTheMask, mask_of, window_of}
@@ -32,7 +32,7 @@ same-either false true x y e = sym e
 same-either false false x y e = refl
 
 -- the first place of a group's range is of text, and its offset is even
-pub start-inside : (t : Groups) (g : ℕ) (s : Span) → IsRangeOf t g s → in_text t s.start ≡ true
+pub start-inside : (t : Groups) (g : ℕ) (s : Span) → IsRangeOf t g s → in_groups_text t s.start ≡ true
 start-inside t g s range = range.inside s.start (grind (arith, nat_tests, range.some))
 
 start-even : (t : Groups) (g : ℕ) (s : Span) → IsRangeOf t g s → AreRangesFrom RAM_START t.text → offset_in t.text s.start % 2 ≡ 0

@@ -2,8 +2,8 @@ use Rattle.std.proofs.Common.{◌≡◌, ◌-◌, ◌++◌, length, map, replica
 use Rattle.std.proofs.lemmas.List.{length-map}
 use Rattle.rv_decode.specs.Rows.{decode_of}
 use Rattle.elf_read.specs.Kernel.{whole_pages}
-use Rattle.guest_maker.specs.Program.{program, drawn_of, functions_from, lines_of}
-use Rattle.guest_maker.specs.Text.{target_of, code_from, word_of, word_bytes, AllFit, Decodes}
+use Rattle.guest_maker.specs.Program.{program, drawn_of, functions_behind_lines, lines_of_routines}
+use Rattle.guest_maker.specs.Text.{target_of, code_from, encoded_word, word_bytes, AllFit, Decodes}
 use Rattle.guest_maker.specs.Guest.{guest_code}
 use Rattle.guest_maker.proofs.Made.{program_fits, length-words, length-code, in_pages-is, code_is}
 use Rattle.guest_maker.proofs.Words.{read_back}
@@ -16,7 +16,7 @@ words-requires-clause-fit c =
     let functions = c.as_slice.ensures ∙ c.in_ok-program.ensures.program.functions in
     let lines = c.as_slice-2.ensures.value ∙ c.in_ok-program.ensures.program.lines in
     subst (λ fs. AllFit (target_of fs drawn) 0 c.as_slice-2.result.now) (sym functions)
-    (subst (λ ls. AllFit (target_of (functions_from 0 (program seed)) drawn) 0 ls) (sym lines) (program_fits seed drawn))
+    (subst (λ ls. AllFit (target_of (functions_behind_lines 0 (program seed)) drawn) 0 ls) (sym lines) (program_fits seed drawn))
 
 pub fill_pages-requires : goal.fill_pages-requires
 fill_pages-requires c =
@@ -29,7 +29,7 @@ fill_pages-requires c =
       length-words c.as_slice-3.result.now,
       ap length c.as_slice-3.ensures.value,
       ap length c.in_ok-words.ensures.value,
-      length-map (code_from target 0 lines) word_of,
+      length-map (code_from target 0 lines) encoded_word,
       length-code target 0 lines,
       c.as_slice-2.ensures.len,
       c.in_ok-program.ensures.size,

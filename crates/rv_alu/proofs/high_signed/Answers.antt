@@ -3,7 +3,7 @@ use Rattle.std.specs.Int.{w64, w128}
 use Rattle.std.specs.Int.RustNames.{unsigned_abs}
 use Rattle.std.proofs.lemmas.Int.{to_z-of_z, fits_signed_mul}
 use mir.Val.{SFits}
-use Rattle.rv_alu.specs.Alu.{signed}
+use Rattle.rv_alu.specs.Alu.{signed_doubleword}
 use Rattle.rv_alu.proofs.high_signed.Goals as goal
 
 abs_le : (x : ℤ) → SFits w64 x → unsigned_abs x ≤ 2 ^ 63
@@ -26,4 +26,4 @@ returns c =
     let f : SFits w64 c.cast_signed.result = record { sfits = c.cast_signed.type_inv } in
     let g : SFits w64 c.cast_signed-2.result = record { sfits = c.cast_signed-2.type_inv } in
     let all = whole c.cast_signed.result c.cast_signed-2.result f g in
-    ap (λ n. n / 2 ^ 64) (e ∙ all ∙ ap (λ x. of_z w128 (x *ℤ c.cast_signed-2.result)) c.cast_signed.ensures ∙ ap (λ y. of_z w128 (signed c.args.a *ℤ y)) c.cast_signed-2.ensures)
+    ap (λ n. n / 2 ^ 64) (e ∙ all ∙ ap (λ x. of_z w128 (x *ℤ c.cast_signed-2.result)) c.cast_signed.ensures ∙ ap (λ y. of_z w128 (signed_doubleword c.args.a *ℤ y)) c.cast_signed-2.ensures)

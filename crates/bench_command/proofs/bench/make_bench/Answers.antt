@@ -1,7 +1,7 @@
 use Rattle.std.proofs.Common.{◌≡◌, ◌∙◌, ap, ℕ, arith, []}
 use Rattle.guest_input.specs.declared.image.Image.{Image}
 use Rattle.guest_input.specs.declared.setup.Setup.{Setup}
-use Rattle.trace_file.specs.Trace.{told}
+use Rattle.trace_file.specs.Trace.{told_of_trace}
 use Rattle.run_evidence.specs.Config.{Config, IsConfig}
 use Rattle.profiler.specs.Profile.{IsProfiled, unviewed}
 use Rattle.guest_runs.specs.Driven.{IsDriven}
@@ -10,7 +10,7 @@ use Rattle.bench_command.proofs.bench.make_bench.Goals as goal
 
 pub returns-clause-said : goal.returns-clause-said
 returns-clause-said c =
-    let trace = told c.in_ok-driven.driven.trace in
+    let trace = told_of_trace c.in_ok-driven.driven.trace in
     let console = c.in_ok-driven.driven.console.items in
     let config : Image → Setup → Config = λ i s. record { image = i; setup = record s { steps = 8000 }; views = c.in-Ok.profiled.views } in
     let lawful : IsConfig (config c.in_ok-image.image c.in_ok-image.setup) = record {

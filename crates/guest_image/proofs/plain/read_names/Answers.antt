@@ -2,18 +2,18 @@ use Rattle.std.proofs.Common.{Some, option_and_then, ap, sym, ◌∙◌}
 use Rattle.std.proofs.lemmas.Result.{err_from_is_err_and}
 use Rattle.json_fields.specs.Fields.{each_of}
 use Rattle.json_fields.proofs.EachOf.{each_of-next, each_of-stop}
-use Rattle.guest_image.specs.Plain.{named_of, names_of}
+use Rattle.guest_image.specs.Plain.{plain_named_place, plain_named_places}
 use Rattle.guest_image.proofs.plain.read_names.Goals as goal
 
 pub returns-in_err-function-clause-err : goal.returns-in_err-function-clause-err
-unfolding names_of
+unfolding plain_named_places
 returns-in_err-function-clause-err c =
     let p = err_from_is_err_and c.from_residual-in_err-function.result c.from_residual-in_err-function.ensures.1 in
     rw (p.1, p.2) (λ misfit.
-    let missing = each_of-stop named_of c.in_ok-items.items.now c.loop-item.item-index c.item-item.result c.loop-item-test.true c.item-item.is (c.in_err-function.ensures.err misfit) in
-    ap (option_and_then (each_of named_of)) (sym (rw c.in_ok-items.ensures.ok_part at c.array.ensures)) ∙ missing)
+    let missing = each_of-stop plain_named_place c.in_ok-items.items.now c.loop-item.item-index c.item-item.result c.loop-item-test.true c.item-item.is (c.in_err-function.ensures.err misfit) in
+    ap (option_and_then (each_of plain_named_place)) (sym (rw c.in_ok-items.ensures.ok_part at c.array.ensures)) ∙ missing)
 
 pub loop-item-preserved : goal.loop-item-preserved
 loop-item-preserved c =
-    each_of-next named_of c.in_ok-items.items.now c.loop-item.item-index c.item-item.result c.loop-item.named c.in_ok-function.function c.loop-item-test.true c.item-item.is c.loop-item.invariant c.in_ok-function.ensures.ok
+    each_of-next plain_named_place c.in_ok-items.items.now c.loop-item.item-index c.item-item.result c.loop-item.named c.in_ok-function.function c.loop-item-test.true c.item-item.is c.loop-item.invariant c.in_ok-function.ensures.ok
     ∙ ap Some (sym c.in_ok-push.ensures.ok)

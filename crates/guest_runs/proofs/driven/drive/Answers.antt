@@ -2,7 +2,7 @@ use Rattle.std.proofs.Common.{◌∙◌, ap, sym, subst, List}
 use Rattle.std.specs.Prelude.{IsSome}
 use Rattle.run_evidence.specs.Config.{Config, IsConfig}
 use Rattle.guest_board.specs.Board.{Seat}
-use Rattle.trace_file.specs.Trace.{told}
+use Rattle.trace_file.specs.Trace.{told_of_trace}
 use Rattle.view_store.specs.Paged.{PagedView}
 use Rattle.run_trace.specs.Told.{IsToldBy}
 use Rattle.vcpu_core.specs.First.{first_world}
@@ -28,10 +28,10 @@ returns c =
     let r : RunsOut c.args.script.now c.args.setup.now.vcpus (first_world config) c.run_out.new.core
     = subst (λ w. RunsOut c.args.script.now c.args.setup.now.vcpus w c.run_out.new.core) c.in_ok-core.ensures c.run_out.ensures in
     let goes_on = idle-ended c.every_order_is_sound.ensures c.idle_runs_have_ended.ensures c.steps_count_one.ensures.vcpus in
-    let seated : IsToldBy c.run_out.new.core.board c.deref.result.now (told c.in_ok-trace.trace)
-    = subst (λ (b : Seat). IsToldBy b c.deref.result.now (told c.in_ok-trace.trace)) c.into_parts-board.ensures.board c.in_ok-trace.ensures.told in
-    let tells : IsToldBy c.run_out.new.core.board c.run_out.new.core.paged_views (told c.in_ok-trace.trace)
-    = subst (λ (vs : List PagedView). IsToldBy c.run_out.new.core.board vs (told c.in_ok-trace.trace)) (c.deref.ensures.value ∙ c.into_parts-board.ensures.views) seated in
+    let seated : IsToldBy c.run_out.new.core.board c.deref.result.now (told_of_trace c.in_ok-trace.trace)
+    = subst (λ (b : Seat). IsToldBy b c.deref.result.now (told_of_trace c.in_ok-trace.trace)) c.into_parts-board.ensures.board c.in_ok-trace.ensures.told in
+    let tells : IsToldBy c.run_out.new.core.board c.run_out.new.core.paged_views (told_of_trace c.in_ok-trace.trace)
+    = subst (λ (vs : List PagedView). IsToldBy c.run_out.new.core.board vs (told_of_trace c.in_ok-trace.trace)) (c.deref.ensures.value ∙ c.into_parts-board.ensures.views) seated in
     is-driven c.every_order_is_sound.ensures goes_on c.runs_have_sound_traces.ensures c.traces_of_runs_are_lawful.ensures config ok c.args.script.now c.run_out.new.core r
-    (told c.in_ok-trace.trace) c.in_ok-console.console.items tells c.in_ok-trace.ensures.ranges
+    (told_of_trace c.in_ok-trace.trace) c.in_ok-console.console.items tells c.in_ok-trace.ensures.ranges
     (c.in_ok-console.ensures.items ∙ c.console.ensures ∙ ap (λ (b : Seat). b.state.console) c.into_parts-board.ensures.board)

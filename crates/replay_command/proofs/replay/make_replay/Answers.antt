@@ -1,7 +1,7 @@
 use Rattle.std.proofs.Common.{◌∙◌, map, List, ℕ}
 use Rattle.std.specs.Prelude.{string_bytes}
 use Rattle.std.proofs.lemmas.Result.{err_from_is_err_and}
-use Rattle.trace_file.specs.Trace.{told}
+use Rattle.trace_file.specs.Trace.{told_of_trace}
 use Rattle.replay_command.proofs.Refusals.{trace-refused}
 use Rattle.replay_command.proofs.replay.make_replay.Goals as goal
 
@@ -21,7 +21,7 @@ returns-clause-said g c = λ at told-at. (
     c.in_ok-setup.setup,
     c.in_ok-setup.ensures.said at (c.in_ok-image.ensures.files ∙ told-at),
     (
-      told c.in_ok-trace.trace,
+      told_of_trace c.in_ok-trace.trace,
       c.in_ok-trace.ensures.said at (c.in_ok-setup.ensures.files ∙ c.in_ok-image.ensures.files ∙ told-at),
       c.in_ok-replayed.ensures,
     ),

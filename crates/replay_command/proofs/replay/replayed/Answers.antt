@@ -1,8 +1,8 @@
 use Rattle.std.proofs.Common.{◌≡◌, ◌∙◌, sym, ap, subst, length, take, true, false, Some, None, List, ℕ}
-use Rattle.trace_file.specs.Trace.{Told, told}
+use Rattle.trace_file.specs.Trace.{Told, told_of_trace}
 use Rattle.guest_board.specs.Board.{Seat}
 use Rattle.run_evidence.specs.Config.{Config, full}
-use Rattle.full_run.specs.Replay.{IsLongest, runs_of}
+use Rattle.full_run.specs.Replay.{IsLongest, config_of_full_run}
 use Rattle.replay_command.specs.declared.comparison.Comparison.TheVariants.{Vcpus}
 use Rattle.replay_command.specs.Comparisons.{differs, first_difference, run_compared}
 use Rattle.replay_command.proofs.Replayed.{all-same, if-ok, run-differs, same-vcpus, vcpus-differ}
@@ -10,13 +10,13 @@ use Rattle.replay_command.proofs.replay.replayed.Goals as goal
 
 pub returns-then-differs : goal.returns-then-differs
 returns-then-differs c =
-    let config : Config = runs_of c.args.image.now c.args.setup.now in
+    let config : Config = config_of_full_run c.args.image.now c.args.setup.now in
     let bad : differs (Vcpus c.args.setup.now.vcpus c.args.trace.now.vcpus) ≡ true = cc (c.differs.ensures, c.if-differs.true) in
-    if-ok c.differing.result (λ p is. vcpus-differ config (told c.args.trace.now) p c.each_has_longest.ensures bad is) c.differing.ensures
+    if-ok c.differing.result (λ p is. vcpus-differ config (told_of_trace c.args.trace.now) p c.each_has_longest.ensures bad is) c.differing.ensures
 
 pub run_difference-requires-clause-vcpus : goal.run_difference-requires-clause-vcpus
 run_difference-requires-clause-vcpus c =
-    let config : Config = runs_of c.args.image.now c.args.setup.now in
+    let config : Config = config_of_full_run c.args.image.now c.args.setup.now in
     let good : differs (Vcpus c.args.setup.now.vcpus c.args.trace.now.vcpus) ≡ false = cc (c.differs.ensures, c.if-differs.false) in
     sym (same-vcpus c.args.setup.now.vcpus c.args.trace.now.vcpus good)
     ∙ sym (c.runs_keep_vcpus.ensures config (take c.in_ok-ran.ran.made c.deref.result.now))
@@ -24,8 +24,8 @@ run_difference-requires-clause-vcpus c =
 
 pub returns : goal.returns
 returns c =
-    let config : Config = runs_of c.args.image.now c.args.setup.now in
-    let t : Told = told c.args.trace.now in
+    let config : Config = config_of_full_run c.args.image.now c.args.setup.now in
+    let t : Told = told_of_trace c.args.trace.now in
     let good : differs (Vcpus c.args.setup.now.vcpus c.args.trace.now.vcpus) ≡ false = cc (c.differs.ensures, c.if-differs.false) in
     let longest : IsLongest config t.schedule c.in_ok-ran.ran.made = subst (λ (h : List ℕ). IsLongest config h c.in_ok-ran.ran.made) c.deref.ensures.value c.in_ok-ran.ensures.longest in
     let board : c.in_ok-ran.ran.board.state ≡ full config (take c.in_ok-ran.ran.made t.schedule)
@@ -36,8 +36,8 @@ returns c =
 
 pub returns-in-Some : goal.returns-in-Some
 returns-in-Some c =
-    let config : Config = runs_of c.args.image.now c.args.setup.now in
-    let t : Told = told c.args.trace.now in
+    let config : Config = config_of_full_run c.args.image.now c.args.setup.now in
+    let t : Told = told_of_trace c.args.trace.now in
     let good : differs (Vcpus c.args.setup.now.vcpus c.args.trace.now.vcpus) ≡ false = cc (c.differs.ensures, c.if-differs.false) in
     let longest : IsLongest config t.schedule c.in_ok-ran.ran.made = subst (λ (h : List ℕ). IsLongest config h c.in_ok-ran.ran.made) c.deref.ensures.value c.in_ok-ran.ensures.longest in
     let board : c.in_ok-ran.ran.board.state ≡ full config (take c.in_ok-ran.ran.made t.schedule)

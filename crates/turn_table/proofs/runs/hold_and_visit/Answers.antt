@@ -1,7 +1,6 @@
 use Rattle.std.proofs.Common.{[], sym, subst}
 use Rattle.run_evidence.specs.Config.{Config}
-use Rattle.run_evidence.specs.Growing.{views_count}
-use Rattle.turn_table.specs.Rule.{logs_of}
+use Rattle.run_evidence.specs.Growing.{views_count, logs_of}
 use Rattle.turn_table.specs.Calls.{OwnsAll}
 use Rattle.turn_table.specs.Tried.{fresh_views}
 use Rattle.turn_table.proofs.Trying.{run_of, rejoined_open, two_apart}

@@ -1,7 +1,7 @@
 use Rattle.std.proofs.Common.{[], ap, sym, subst, ◌∙◌}
 use Rattle.run_evidence.specs.Config.{Config}
-use Rattle.run_evidence.specs.Growing.{views_count}
-use Rattle.turn_table.specs.Rule.{config_of, logs_of}
+use Rattle.run_evidence.specs.Growing.{views_count, logs_of}
+use Rattle.turn_table.specs.Rule.{config_of}
 use Rattle.turn_table.specs.Steps.{own}
 use Rattle.turn_table.specs.Calls.{OwnsAll}
 use Rattle.turn_table.specs.Tried.{fresh_views}

@@ -11,7 +11,7 @@ pub mend-requires-clause-placed : goal.mend-requires-clause-placed
 mend-requires-clause-placed g c = table_placed (config_of_shared c.args.rig.now) c.args.pass.now.seat.me.0 c.args.lane.now c.args.rig.now.table c.requires.worker c.requires.rig.groups
 
 pub mend-requires-clause-groups : goal.mend-requires-clause-groups
-mend-requires-clause-groups g c = ap (λ p. p.groups) c.take_view-view.ensures.view ∙ (ap (λ d. Rattle.run_evidence.specs.Config.groups_in d) c.requires.worker.config ∙ sym c.requires.rig.groups)
+mend-requires-clause-groups g c = ap (λ p. p.groups) c.take_view-view.ensures.view ∙ (ap (λ d. Rattle.run_evidence.specs.Config.image_groups d) c.requires.worker.config ∙ sym c.requires.rig.groups)
 
 pub give_view-requires-clause-number : goal.give_view-requires-clause-number
 give_view-requires-clause-number g c =

@@ -1,5 +1,5 @@
 use Rattle.std.proofs.Common.{◌≡◌, ◌<◌, ◌≤◌, ◌∙◌, false, ap, sym, arith, length, take}
-use Rattle.device_feed.specs.Devices.{line_after_all, due}
+use Rattle.device_feed.specs.Devices.{line_after_all, due_events}
 use Rattle.device_feed.specs.Lists.{no_levels}
 use Rattle.device_feed.proofs.Events.{rising}
 use Rattle.device_feed.proofs.Levels.{raised_at, length-levels_from}
@@ -15,7 +15,7 @@ pub returns : goal.returns
 returns c =
     let events = c.self.inside.events.items in
     let n = c.due_count-due.result in
-    let first : due c.args.clock events ≡ take n events = rw c.deref.ensures.value at c.due_count-due.ensures.due in
+    let first : due_events c.args.clock events ≡ take n events = rw c.deref.ensures.value at c.due_count-due.ensures.due in
     let within : n ≤ length events = rw c.deref.ensures.value at c.due_count-due.ensures.within in
     let known : c.args.v < length c.self.inside.timer.items = rw (← c.self.view_is) at c.requires in
     let few : c.args.v < 8 = omega (arith, c.self.invariant.eight) in

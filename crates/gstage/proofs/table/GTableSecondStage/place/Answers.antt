@@ -1,6 +1,6 @@
 use Rattle.std.proofs.Common.{◌∙◌, ◌+◌, ◌-◌, ◌*◌, ◌/◌, ◌<◌, length, ap, arith, sym}
 use Rattle.std.proofs.lemmas.Grind.{get_or_default_zero}
-use Rattle.gstage.specs.Stage.{placed}
+use Rattle.gstage.specs.Stage.{placed_among}
 use Rattle.gstage.specs.Layout.{placed_by}
 use Rattle.gstage.proofs.Maps.{placed_at, placed_far}
 use Rattle.gstage.proofs.table.GTableSecondStage.place.Goals as goal
@@ -21,4 +21,4 @@ returns c =
     let read = c.index.ensures ∙ get_or_default_zero c.self.inside.entries.items (512 * c.pages_above-above.result + (c.at.inside.0 - 2147483648) / 4096) c.index.result.now within in
     c.placed_by.ensures ∙ ap placed_by read
     ∙ placed_at c.self.inside c.args.self.now c.pages_above-above.result c.at.inside.0 c.self.view_is c.self.invariant c.pages_above-above.ensures.value (omega (arith, c.if-at-lt-RAM_START.false)) near
-    ∙ ap (λ p. placed c.args.self.now.text c.args.self.now.ram p) c.at.view_is
+    ∙ ap (λ p. placed_among c.args.self.now.text c.args.self.now.ram p) c.at.view_is

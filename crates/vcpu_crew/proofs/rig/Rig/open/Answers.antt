@@ -6,9 +6,8 @@ use Rattle.view_file.specs.Named.{view_named}
 use Rattle.view_store.specs.Paged.{PagedView}
 use Rattle.run_evidence.specs.Config.{Config, IsConfig, full}
 use Rattle.run_evidence.specs.Evidence.{log_in}
-use Rattle.run_evidence.specs.Growing.{views_count}
+use Rattle.run_evidence.specs.Growing.{views_count, logs_of}
 use Rattle.turn_table.specs.Passes.{known}
-use Rattle.turn_table.specs.Rule.{logs_of}
 use Rattle.vcpu_core.specs.Stages.{AreStagesFor}
 use Rattle.vcpu_crew.specs.declared.rig.Shared.{Shared}
 use Rattle.vcpu_crew.specs.Rig.{OwnsBelow}

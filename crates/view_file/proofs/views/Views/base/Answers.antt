@@ -1,6 +1,6 @@
 use Rattle.std.proofs.Common.{◌≡◌, ◌+◌, ◌-◌, arith, sym, ap, ◌∙◌}
 use Rattle.function_table.specs.Groups.{is_function}
-use Rattle.view_file.specs.Base.{functions_of}
+use Rattle.view_file.specs.Base.{functions_of_app}
 use Rattle.view_file.proofs.Bases.{list_all-functions_of, base_of-full, base_of-marked}
 use Rattle.view_file.proofs.views.Views.base.Goals as goal
 
@@ -19,5 +19,5 @@ returns c =
     base_of-marked c.args.self.now c.args.table.now c.args.v c.groups-count.result (c.v.inside.0 - 1)
     c.in_ok-groups.groups.items c.mark.new.groups.items c.mark-2.new.groups.items c.functions_at.result.now c.as_slice-2.result.now
     some c.groups-count.ensures.count c.in_ok-groups.ensures
-    (c.functions_at.ensures ∙ ap (λ apps. functions_of apps (c.v.inside.0 - 1)) c.as_slice.ensures.value) c.as_slice-2.ensures
+    (c.functions_at.ensures ∙ ap (λ apps. functions_of_app apps (c.v.inside.0 - 1)) c.as_slice.ensures.value) c.as_slice-2.ensures
     c.mark.ensures.marked c.mark-2.ensures.marked (c.mark-2.ensures.len ∙ c.mark.ensures.len)
