@@ -1,5 +1,7 @@
 //! The decoder of 32-bit words: one function for each opcode of more than one row.
 //!
+//! They are inlined into [`decode32`], and that into the step, so that no instruction is copied on its way.
+//!
 //! The opcodes are named as in the manual's "RISC-V base opcode map".
 
 ghost use Rattle.std.specs.Prelude.{◌≡◌, bit_and};
@@ -58,6 +60,7 @@ const FUNCT5_RS2: u32 = 0xf9f0_707f;
 const FUNCT7_RD: u32 = 0xfe00_7fff;
 
 /// The indirect jumps.
+#[inline(always)]
 fn decode_jalr(w: u32) -> Option<Inst>
     requires { bit_and w OPCODE ≡ JALR }
     ensures { result ≡ decode_of w }
@@ -72,6 +75,7 @@ fn decode_jalr(w: u32) -> Option<Inst>
 }
 
 /// The conditional branches.
+#[inline(always)]
 fn decode_branch(w: u32) -> Option<Inst>
     requires { bit_and w OPCODE ≡ BRANCH }
     ensures { result ≡ decode_of w }
@@ -91,6 +95,7 @@ fn decode_branch(w: u32) -> Option<Inst>
 }
 
 /// The loads.
+#[inline(always)]
 fn decode_load(w: u32) -> Option<Inst>
     requires { bit_and w OPCODE ≡ LOAD }
     ensures { result ≡ decode_of w }
@@ -111,6 +116,7 @@ fn decode_load(w: u32) -> Option<Inst>
 }
 
 /// The stores.
+#[inline(always)]
 fn decode_store(w: u32) -> Option<Inst>
     requires { bit_and w OPCODE ≡ STORE }
     ensures { result ≡ decode_of w }
@@ -128,6 +134,7 @@ fn decode_store(w: u32) -> Option<Inst>
 }
 
 /// The operations with an immediate.
+#[inline(always)]
 fn decode_op_imm(w: u32) -> Option<Inst>
     requires { bit_and w OPCODE ≡ OP_IMM }
     ensures { result ≡ decode_of w }
@@ -187,6 +194,7 @@ fn decode_op_imm(w: u32) -> Option<Inst>
 }
 
 /// The 32-bit operations with an immediate.
+#[inline(always)]
 fn decode_op_imm_32(w: u32) -> Option<Inst>
     requires { bit_and w OPCODE ≡ OP_IMM_32 }
     ensures { result ≡ decode_of w }
@@ -221,6 +229,7 @@ fn decode_op_imm_32(w: u32) -> Option<Inst>
 }
 
 /// The operations on two registers.
+#[inline(always)]
 fn decode_op(w: u32) -> Option<Inst>
     requires { bit_and w OPCODE ≡ OP }
     ensures { result ≡ decode_of w }
@@ -252,6 +261,7 @@ fn decode_op(w: u32) -> Option<Inst>
 }
 
 /// The 32-bit operations on two registers.
+#[inline(always)]
 fn decode_op_32(w: u32) -> Option<Inst>
     requires { bit_and w OPCODE ≡ OP_32 }
     ensures { result ≡ decode_of w }
@@ -275,6 +285,7 @@ fn decode_op_32(w: u32) -> Option<Inst>
 }
 
 /// The fences.
+#[inline(always)]
 fn decode_misc_mem(w: u32) -> Option<Inst>
     requires { bit_and w OPCODE ≡ MISC_MEM }
     ensures { result ≡ decode_of w }
@@ -287,6 +298,7 @@ fn decode_misc_mem(w: u32) -> Option<Inst>
 }
 
 /// The environment calls, supervisor instructions and accesses of control registers.
+#[inline(always)]
 fn decode_system(w: u32) -> Option<Inst>
     requires { bit_and w OPCODE ≡ SYSTEM }
     ensures { result ≡ decode_of w }
@@ -328,6 +340,7 @@ fn decode_system(w: u32) -> Option<Inst>
 }
 
 /// The load-reserved, store-conditional and atomic memory operations.
+#[inline(always)]
 fn decode_amo(w: u32) -> Option<Inst>
     requires { bit_and w OPCODE ≡ AMO }
     ensures { result ≡ decode_of w }
@@ -365,6 +378,7 @@ fn decode_amo(w: u32) -> Option<Inst>
 }
 
 /// The instruction of the one row that `w` is of; None exactly where it is of no row.
+#[inline(always)]
 pub fn decode32(w: u32) -> Option<Inst>
     ensures { result ≡ decode_of w }
 {

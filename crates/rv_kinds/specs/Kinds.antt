@@ -35,25 +35,25 @@ abbrev pub store_kind : Width → ℕ → ℕ → ℤ → Kind
 store_kind width rs1 rs2 imm = kind.Store (record { width = width; rs1 = rs1; rs2 = rs2; imm = imm })
 
 abbrev pub csr_by_register : CsrOp → ℕ → ℕ → ℕ → Kind
-csr_by_register op rd csr rs1 = kind.Csr (record { op = op; rd = rd; csr = csr; source = source.Register rs1 })
+csr_by_register op rd csr rs1 = kind.Csr op rd csr (source.Register rs1)
 
 abbrev pub csr_by_number : CsrOp → ℕ → ℕ → ℤ → Kind
-csr_by_number op rd csr imm = kind.Csr (record { op = op; rd = rd; csr = csr; source = source.Number imm })
+csr_by_number op rd csr imm = kind.Csr op rd csr (source.Number imm)
 
 abbrev pub reserve_kind : Width → ℕ → ℕ → Kind
 reserve_kind width rd rs1 = kind.Reserve (record { width = width; rd = rd; rs1 = rs1 })
 
 abbrev pub conditional_kind : Width → ℕ → ℕ → ℕ → Kind
-conditional_kind width rd rs1 rs2 = kind.Conditional (record { width = width; rd = rd; rs1 = rs1; rs2 = rs2 })
+conditional_kind width rd rs1 rs2 = kind.Conditional width rd rs1 rs2
 
 abbrev pub amo_kind : AmoOp → Width → ℕ → ℕ → ℕ → Kind
 amo_kind op width rd rs1 rs2 = kind.Amo (record { op = op; width = width; rd = rd; rs1 = rs1; rs2 = rs2 })
 
 unfoldable pub kind_of : Inst → Kind
-kind_of (Lui rd imm) = kind.Lui rd imm
-kind_of (Auipc rd imm) = kind.Auipc rd imm
-kind_of (Jal rd imm) = kind.Jal rd imm
-kind_of (Jalr rd rs1 imm) = kind.Jalr rd rs1 imm
+kind_of (Lui rd imm) = kind.Lui (record { rd = rd; imm = imm })
+kind_of (Auipc rd imm) = kind.Auipc (record { rd = rd; imm = imm })
+kind_of (Jal rd imm) = kind.Jal (record { rd = rd; imm = imm })
+kind_of (Jalr rd rs1 imm) = kind.Jalr (record { rd = rd; rs1 = rs1; imm = imm })
 kind_of (Beq rs1 rs2 imm) = branch_kind test.Eq rs1 rs2 imm
 kind_of (Bne rs1 rs2 imm) = branch_kind test.Ne rs1 rs2 imm
 kind_of (Blt rs1 rs2 imm) = branch_kind test.Lt rs1 rs2 imm

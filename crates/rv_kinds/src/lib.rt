@@ -42,10 +42,10 @@ pub enum Source {
 /// Arithmetic on a register and a source.
 #[derive(Clone, Copy, Drop)]
 pub struct Alu {
+    pub source: Source,
     pub op: AluOp,
     pub rd: u8,
     pub rs1: u8,
-    pub source: Source,
 }
 
 /// A branch on two registers.
@@ -82,11 +82,11 @@ pub struct Store {
 /// An access to a control register.
 #[derive(Clone, Copy, Drop)]
 pub struct CsrAccess {
+    pub source: Source,
     pub op: CsrOp,
     pub rd: u8,
     /// The number of the control register.
     pub csr: u16,
-    pub source: Source,
 }
 
 /// LR: a load from the address in rs1 that reserves it.
@@ -116,7 +116,34 @@ pub struct Amo {
     pub rs2: u8,
 }
 
+/// A register, and the number that goes to it, or the distance from here of the address that does.
+#[derive(Clone, Copy, Drop)]
+pub struct UpperImmediate {
+    pub rd: u8,
+    pub imm: i64,
+}
+
+/// A jump of so many bytes from here. The address behind it goes to rd.
+#[derive(Clone, Copy, Drop)]
+pub struct Jump {
+    pub rd: u8,
+    /// The distance, in bytes.
+    pub imm: i64,
+}
+
+/// A jump to so many bytes from the address in rs1. The address behind it goes to rd.
+#[derive(Clone, Copy, Drop)]
+pub struct JumpRegister {
+    pub rd: u8,
+    pub rs1: u8,
+    /// The offset, in bytes.
+    pub imm: i64,
+}
+
 /// The class of an instruction, with what distinguishes it there. Registers are numbers below 32.
+///
+/// What has a number of 64 bits has it at the same place in every class, and no class is one of four bytes that move as
+/// one: so a step moves all of it without taking it apart. That is why two classes have their fields here.
 #[derive(Clone, Copy, Drop)]
 pub enum Kind {
     Alu(Alu),
@@ -124,13 +151,13 @@ pub enum Kind {
     Load(Load),
     Store(Store),
     /// LUI: the number goes to rd.
-    Lui { rd: u8, imm: i64 },
+    Lui(UpperImmediate),
     /// AUIPC: the address so many bytes from here goes to rd.
-    Auipc { rd: u8, imm: i64 },
+    Auipc(UpperImmediate),
     /// JAL: a jump of so many bytes from here.
-    Jal { rd: u8, imm: i64 },
+    Jal(Jump),
     /// JALR: a jump to so many bytes from the address in rs1.
-    Jalr { rd: u8, rs1: u8, imm: i64 },
+    Jalr(JumpRegister),
     /// An instruction that only goes on: the fences of memory, and WFI.
     Nothing,
     /// ECALL.
@@ -141,9 +168,21 @@ pub enum Kind {
     Return,
     /// SFENCE.VMA.
     FenceVma,
-    Csr(CsrAccess),
+    /// An access to a control register, as in [`CsrAccess`].
+    Csr {
+        op: CsrOp,
+        rd: u8,
+        csr: u16,
+        source: Source,
+    },
     Reserve(LoadReserved),
-    Conditional(StoreConditional),
+    /// SC, as in [`StoreConditional`].
+    Conditional {
+        width: Width,
+        rd: u8,
+        rs1: u8,
+        rs2: u8,
+    },
     Amo(Amo),
 }
 
@@ -201,23 +240,23 @@ fn store_kind(width: Width, rs1: u8, rs2: u8, imm: i64) -> Kind
 fn csr_by_register(op: CsrOp, rd: u8, csr: u16, rs1: u8) -> Kind
     ensures { result ≡ csr_by_register op rd csr rs1 }
 {
-    Kind::Csr(CsrAccess {
+    Kind::Csr {
         op,
         rd,
         csr,
         source: Source::Register(rs1),
-    })
+    }
 }
 
 fn csr_by_number(op: CsrOp, rd: u8, csr: u16, imm: i64) -> Kind
     ensures { result ≡ csr_by_number op rd csr imm }
 {
-    Kind::Csr(CsrAccess {
+    Kind::Csr {
         op,
         rd,
         csr,
         source: Source::Number(imm),
-    })
+    }
 }
 
 fn reserve_kind(width: Width, rd: u8, rs1: u8) -> Kind
@@ -229,12 +268,12 @@ fn reserve_kind(width: Width, rd: u8, rs1: u8) -> Kind
 fn conditional_kind(width: Width, rd: u8, rs1: u8, rs2: u8) -> Kind
     ensures { result ≡ conditional_kind width rd rs1 rs2 }
 {
-    Kind::Conditional(StoreConditional {
+    Kind::Conditional {
         width,
         rd,
         rs1,
         rs2,
-    })
+    }
 }
 
 fn amo_kind(op: AmoOp, width: Width, rd: u8, rs1: u8, rs2: u8) -> Kind
@@ -249,16 +288,17 @@ fn amo_kind(op: AmoOp, width: Width, rd: u8, rs1: u8, rs2: u8) -> Kind
     })
 }
 
-/// The class of the instruction.
+/// The class of the instruction. Inlined, so that a step decodes, classifies and executes without copies in between.
+#[inline(always)]
 #[tactic(auto, unfolding(crate::specs::Kinds::kind_of))]
 pub fn kind_of(inst: &Inst) -> Kind
     ensures { result ≡ kind_of inst.now }
 {
     match *inst {
-        Inst::Lui { rd, imm } => Kind::Lui { rd, imm },
-        Inst::Auipc { rd, imm } => Kind::Auipc { rd, imm },
-        Inst::Jal { rd, imm } => Kind::Jal { rd, imm },
-        Inst::Jalr { rd, rs1, imm } => Kind::Jalr { rd, rs1, imm },
+        Inst::Lui { rd, imm } => Kind::Lui(UpperImmediate { rd, imm }),
+        Inst::Auipc { rd, imm } => Kind::Auipc(UpperImmediate { rd, imm }),
+        Inst::Jal { rd, imm } => Kind::Jal(Jump { rd, imm }),
+        Inst::Jalr { rd, rs1, imm } => Kind::Jalr(JumpRegister { rd, rs1, imm }),
         Inst::Beq { rs1, rs2, imm } => branch_kind(BranchOp::Eq, rs1, rs2, imm),
         Inst::Bne { rs1, rs2, imm } => branch_kind(BranchOp::Ne, rs1, rs2, imm),
         Inst::Blt { rs1, rs2, imm } => branch_kind(BranchOp::Lt, rs1, rs2, imm),

@@ -91,7 +91,7 @@ did_call_keeps s len clock = rw (call_in-ram s.vcpu.mode s len clock) (same s.ra
 done_keeps : (k : Kind) (len clock : ℕ) (s : Site) → IsLaid s.ram → KeepsText s.ram (done_by k len clock s).ram
 unfolding done_by
 done_keeps (Stores i) len clock s laid = did_store_keeps _ _ _ _ laid
-done_keeps (Conditional i) len clock s laid = did_conditional_keeps _ _ _ _ laid
+done_keeps (Conditional width rd rs1 rs2) len clock s laid = did_conditional_keeps _ _ _ _ laid
 done_keeps (Amo i) len clock s laid = did_amo_keeps _ _ _ _ laid
 done_keeps Call len clock s laid = did_call_keeps s len clock
 done_keeps k len clock s laid = same s.ram

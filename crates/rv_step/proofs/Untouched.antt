@@ -123,18 +123,18 @@ done_is_fair (kind.Alu i) len clock s = tt
 done_is_fair (kind.Branch i) len clock s = tt
 done_is_fair (kind.Load i) len clock s = load_is_fair s len i (reached s.vcpu s.ram access.Load i.width _)
 done_is_fair (kind.Store i) len clock s = store_is_fair s len i (reached s.vcpu s.ram access.Store i.width _)
-done_is_fair (kind.Lui rd imm) len clock s = tt
-done_is_fair (kind.Auipc rd imm) len clock s = tt
-done_is_fair (kind.Jal rd imm) len clock s = tt
-done_is_fair (kind.Jalr rd rs1 imm) len clock s = tt
+done_is_fair (kind.Lui i) len clock s = tt
+done_is_fair (kind.Auipc i) len clock s = tt
+done_is_fair (kind.Jal i) len clock s = tt
+done_is_fair (kind.Jalr i) len clock s = tt
 done_is_fair kind.Nothing len clock s = tt
 done_is_fair kind.Call len clock s = call_is_fair s len clock
 done_is_fair kind.Break len clock s = record { vcpu = refl; ram = refl; devices = refl; put = refl }
 done_is_fair kind.Return len clock s = return_in_is_fair s.vcpu.mode s
 done_is_fair kind.FenceVma len clock s = fence_in_is_fair s.vcpu.mode s len
-done_is_fair (kind.Csr i) len clock s = csr_by_is_fair s len i (csr_value s.vcpu s.devices i.csr clock)
+done_is_fair (kind.Csr op rd csr source) len clock s = csr_by_is_fair s len (record { op = op; rd = rd; csr = csr; source = source }) (csr_value s.vcpu s.devices csr clock)
 done_is_fair (kind.Reserve i) len clock s = reserve_is_fair s len i (reached s.vcpu s.ram access.Load i.width _)
-done_is_fair (kind.Conditional i) len clock s = conditional_is_fair s len i (reached s.vcpu s.ram access.Store i.width _)
+done_is_fair (kind.Conditional width rd rs1 rs2) len clock s = conditional_is_fair s len (record { width = width; rd = rd; rs1 = rs1; rs2 = rs2 }) (reached s.vcpu s.ram access.Store width _)
 done_is_fair (kind.Amo i) len clock s = amo_is_fair s len i (reached s.vcpu s.ram access.Store i.width _)
 
 pub did_changes_on_next : (inst : Inst) (len clock : ℕ) (s : Site) → ChangesOnNextAlone s (did inst len clock s)

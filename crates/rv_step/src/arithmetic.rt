@@ -11,6 +11,7 @@ use rv_alu::{alu, branch};
 use rv_kinds::{Alu, Branch};
 
 /// Arithmetic on a register and a source.
+#[inline(always)]
 #[tactic(auto, unfolding(crate::specs::Classes::did_alu))]
 pub(crate) fn do_alu(vcpu: &mut Vcpu, len: u8, inst: Alu) -> Effect
     ensures { let made : OnVcpu = record { vcpu = vcpu.new; effect = result } in made ≡ did_alu vcpu.old len inst }

@@ -16,7 +16,7 @@ use device_feed::feed::Feed;
 use gstage::stage::SecondStage;
 use guest_ram::GuestRam;
 use rv_decode::Inst;
-use rv_kinds::{Kind, kind_of};
+use rv_kinds::{CsrAccess, Jump, JumpRegister, Kind, StoreConditional, UpperImmediate, kind_of};
 use sv39_walk::cache::WalkCache;
 
 /// Executes one instruction of `len` bytes at the vCPU's pc. A byte for the console is left in `put`, and None where
@@ -52,16 +52,16 @@ pub fn execute<S: SecondStage>(
         Kind::Branch(branch) => do_branch(vcpu, len, branch),
         Kind::Load(load) => do_load(vcpu, ram, cache, stage, len, load),
         Kind::Store(store) => do_store(vcpu, ram, cache, stage, len, store),
-        Kind::Lui { rd, imm } => do_put(vcpu, len, rd, imm.cast_unsigned()),
-        Kind::Auipc { rd, imm } => {
+        Kind::Lui(UpperImmediate { rd, imm }) => do_put(vcpu, len, rd, imm.cast_unsigned()),
+        Kind::Auipc(UpperImmediate { rd, imm }) => {
             let x = relative(vcpu, imm);
             do_put(vcpu, len, rd, x)
         }
-        Kind::Jal { rd, imm } => {
+        Kind::Jal(Jump { rd, imm }) => {
             let to = relative(vcpu, imm);
             do_jump(vcpu, len, rd, to)
         }
-        Kind::Jalr { rd, rs1, imm } => {
+        Kind::Jalr(JumpRegister { rd, rs1, imm }) => {
             let to = address(vcpu, rs1, imm) & 0xffff_ffff_ffff_fffe;
             do_jump(vcpu, len, rd, to)
         }
@@ -73,10 +73,43 @@ pub fn execute<S: SecondStage>(
         },
         Kind::Return => do_return(vcpu),
         Kind::FenceVma => do_fence(vcpu, len),
-        Kind::Csr(access) => do_csr(vcpu, feed, len, access, clock),
+        Kind::Csr {
+            op,
+            rd,
+            csr,
+            source,
+        } => do_csr(
+            vcpu,
+            feed,
+            len,
+            CsrAccess {
+                op,
+                rd,
+                csr,
+                source,
+            },
+            clock,
+        ),
         Kind::Reserve(reserve) => do_reserve(vcpu, ram, cache, stage, len, reserve),
-        Kind::Conditional(conditional) => {
-            do_conditional(vcpu, ram, cache, stage, len, conditional)
+        Kind::Conditional {
+            width,
+            rd,
+            rs1,
+            rs2,
+        } => {
+            do_conditional(
+                vcpu,
+                ram,
+                cache,
+                stage,
+                len,
+                StoreConditional {
+                    width,
+                    rd,
+                    rs1,
+                    rs2,
+                },
+            )
         }
         Kind::Amo(amo) => do_amo(vcpu, ram, cache, stage, len, amo),
     }

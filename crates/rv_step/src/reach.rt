@@ -27,6 +27,7 @@ fn is_aligned(at: u64, width: Width) -> bool
 
 /// The place that the access reaches from the address `at`, or what the instruction comes to instead: a trap, or the end
 /// of the run.
+#[inline(always)]
 #[tactic(auto, unfolding(crate::specs::Reach::reached))]
 pub(crate) fn reach<S: SecondStage>(
     vcpu: &Vcpu,

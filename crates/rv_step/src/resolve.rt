@@ -32,6 +32,7 @@ pub enum Resolved {
 
 /// Where the address leads for this access, in the vCPU's mode and by its control registers. The stage tells text from
 /// other RAM. The cache is one of this memory, and keeps the answer.
+#[inline(always)]
 #[tactic(auto, unfolding(crate::specs::Site::resolved))]
 pub fn resolve<S: SecondStage>(
     vcpu: &Vcpu,
