@@ -1,5 +1,5 @@
 -- What a step counts, and when it is made.
-use Rattle.std.proofs.Common.{◌≡◌, ◌≢◌, ℕ, ◌+◌, ◌<◌, ◌≤◌, Bool, true, false, length, refl, ap, ◌∙◌, arith, Option, Some, None}
+use Rattle.std.proofs.Common.{◌≡◌, ◌≢◌, ℕ, ◌+◌, ◌<◌, ◌≤◌, Bool, true, false, refl, ap, ◌∙◌, arith, Option, Some, None}
 use Rattle.std.specs.Prelude.{if◌then◌else◌}
 use Rattle.std.proofs.lemmas.Bool.Decides.{nat_tests}
 use Rattle.guest_ram.specs.Ram.{Ram, is_text}
@@ -12,11 +12,11 @@ use Rattle.guest_board.specs.declared.step.StepStart.{StepStart}
 use Rattle.guest_board.specs.declared.step.StepStart.TheVariants.{Interrupt, Fetches}
 use Rattle.guest_board.specs.declared.seen.Windows.{Windows}
 use Rattle.guest_board.specs.declared.seen.Verdict.{Verdict}
-use Rattle.guest_board.specs.declared.seen.Verdict.TheVariants.{Idle, Zeroes, Goes}
+use Rattle.guest_board.specs.declared.seen.Verdict.TheVariants.{Idle, Goes}
 use Rattle.guest_board.specs.Made.{Made}
 use Rattle.guest_board.specs.Step.{due_at, made_by, place_of, start_by, step_start}
-use Rattle.guest_board.specs.Board.{State, after_made, deeper, depth_after, is_hook, made_of, may, next_start, site_of, slot_after, slot_of, step_of}
-use Rattle.guest_board.specs.Laws.{ClockCountsSteps, FullStepsBegin, NumberOfVcpusStays, StepsCountOne}
+use Rattle.guest_board.specs.Board.{State, after_made, deeper, depth_after, is_hook, is_same_place, made_of, may, next_start, site_of, slot_after, slot_of, step_of}
+use Rattle.guest_board.specs.Laws.{ClockCountsSteps, FullStepsBegin, NamesStay, NumberOfVcpusStays, StepsCountOne}
 use Rattle.guest_board.specs.Seen.{verdict_of, by_start}
 use Rattle.guest_board.specs.SeenFacts.{IsPlacedIn}
 use Rattle.guest_board.proofs.Places.{HalvesAre, fetched-halves, text_place-is}
@@ -40,12 +40,19 @@ counts_one rules s i start inside =
     let m : Made = made_by start s.clock (site_of s i) in
     ap (λ (slot : Slot). slot.made) (slots-own rules s i start m inside) ∙ slot-made rules (site_of s i) (slot_of s i) start m
 
+slot-name : (rules : Rules) (s : Site) (slot : Slot) (start : StepStart) (m : Made) → is_same_place (place_of start) rules.hook ≡ false → (slot_after rules s slot start m).name ≡ slot.name
+unfolding slot_after
+slot-name rules s slot start m away = rw away refl
+
+pub names_stay : NamesStay
+unfolding after_made
+names_stay rules s i start inside away =
+    let m : Made = made_by start s.clock (site_of s i) in
+    ap (λ (slot : Slot). slot.name) (slots-own rules s i start m inside) ∙ slot-name rules (site_of s i) (slot_of s i) start m away
+
 pub clock_counts : ClockCountsSteps
 unfolding after_made
 clock_counts rules s i start = refl
-
-pub may-vcpu : (rules : Rules) (s : State) (i : ℕ) → may rules s i ≡ true → i < length s.slots
-may-vcpu rules s i m = grind (arith, nat_tests)
 
 pub may-made : (rules : Rules) (s : State) (i : ℕ) → may rules s i ≡ true → made_of s i < rules.steps
 may-made rules s i m = grind (arith, nat_tests)
@@ -83,10 +90,7 @@ busy rules s i w v e b =
       | false ↦ λ h. absurd (b h)
     ] e
 
--- a vCPU that traps or goes on may step
-pub zeroes_may : (rules : Rules) (s : State) (i p : ℕ) (w : Windows) → Zeroes p ≡ verdict_of rules s i w → may rules s i ≡ true
-zeroes_may rules s i p w e = busy rules s i w (Zeroes p) e (λ h. absurd (cc))
-
+-- a vCPU that goes on may step
 pub goes_may : (rules : Rules) (s : State) (i : ℕ) (start : StepStart) (w : Windows) → Goes start ≡ verdict_of rules s i w → may rules s i ≡ true
 goes_may rules s i start w e = busy rules s i w (Goes start) e (λ h. absurd (cc))
 

@@ -9,8 +9,8 @@ use Rattle.rv_step.specs.Kept.{KeepsText}
 use Rattle.guest_board.specs.declared.rules.Rules.{Rules}
 use Rattle.guest_board.specs.declared.slot.Slot.{Slot}
 use Rattle.guest_board.specs.declared.step.StepStart.{StepStart}
-use Rattle.guest_board.specs.Step.{made_by}
-use Rattle.guest_board.specs.Board.{Seat, State, released, site_of, slot_of, made_of, may, next_start, stepped_by, step_of, full_after}
+use Rattle.guest_board.specs.Step.{made_by, place_of}
+use Rattle.guest_board.specs.Board.{Seat, State, is_same_place, name_of, released, site_of, slot_of, made_of, may, next_start, stepped_by, step_of, full_after}
 
 -- one step more
 abbrev pub counted : Slot → Slot
@@ -67,6 +67,11 @@ ClockCountsSteps = (rules : Rules) (s : State) (i : ℕ) (start : StepStart) →
 -- where the run has ended nothing happens any more
 abbrev pub EndsStay : Type 0
 EndsStay = (b : Seat) (i : ℕ) (e : End) → b.state.end ≡ Some e → full_after b i ≡ b
+
+-- a step that does not fetch the hook's place keeps the name of its vCPU
+abbrev pub NamesStay : Type 0
+NamesStay = (rules : Rules) (s : State) (i : ℕ) (start : StepStart) → i < length s.slots
+    → is_same_place (place_of start) rules.hook ≡ false → name_of (stepped_by rules s i start) i ≡ name_of s i
 
 -- a vCPU that may not step may not after a step of another either
 abbrev pub IdleVcpusStay : Type 0

@@ -18,7 +18,8 @@ use Rattle.guest_board.specs.declared.seen.Verdict.TheVariants.{Idle, Needs, Zer
 use Rattle.guest_board.specs.declared.seen.Seen.{Seen}
 use Rattle.guest_board.specs.declared.seen.Seen.TheVariants as seen
 use Rattle.guest_board.specs.Fetch.{text_place, with_halves}
-use Rattle.guest_board.specs.Board.{State, Seat, vcpu_of, may, next_start, stepped_by, moved}
+use Rattle.guest_board.specs.Step.{place_of}
+use Rattle.guest_board.specs.Board.{State, Seat, is_same_place, vcpu_of, may, next_start, stepped_by, moved}
 
 -- the number of the line of text that holds a place
 abbrev pub line_no : List Span → ℕ → ℕ
@@ -75,8 +76,9 @@ trapped_at s i view place = record {
   chain = record { items = chain_of s.ram (vcpu_of s i).csr (vcpu_of s i).mode (vcpu_of s i).regs };
 }
 
-abbrev pub seen_by : State → ℕ → ℕ → Verdict → Seen
-seen_by s i view Idle = seen.Over
-seen_by s i view (Needs line) = seen.Need line
-seen_by s i view (Zeroes place) = seen.Zero (trapped_at s i view place)
-seen_by s i view (Goes start) = seen.Stepped
+-- of a step it is said whether it fetches the hook's place
+abbrev pub seen_by : Rules → Verdict → Seen
+seen_by rules Idle = seen.Over
+seen_by rules (Needs line) = seen.Need line
+seen_by rules (Zeroes place) = seen.Zero place
+seen_by rules (Goes start) = seen.Stepped (is_same_place (place_of start) rules.hook)

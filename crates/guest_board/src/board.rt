@@ -1,9 +1,8 @@
 //! The board and its steps.
 
-ghost use Rattle.std.specs.Prelude.{◌≡◌, ◌+◌, ◌-◌, ◌%◌, ◌∷◌, ◌++◌, [], ◌<◌, ◌≤◌, ◌^◌, ℕ, None, Some, true, IfOk, length, slice_index, slice_index_or, slice_set, vec_len, vec_capacity, option_copied};
+ghost use Rattle.std.specs.Prelude.{◌≡◌, ◌+◌, ◌-◌, ◌∷◌, ◌++◌, [], ◌<◌, ◌≤◌, ◌^◌, ℕ, None, Some, true, IfOk, length, slice_index_or, slice_set, vec_len, vec_capacity, option_copied};
 ghost use Rattle.gstage.specs.Stage.{IsFor};
-ghost use Rattle.guest_ram.specs.Ram.{Ram, CanStore};
-ghost use Rattle.device_feed.specs.Devices.{Devices};
+ghost use Rattle.guest_ram.specs.Ram.{CanStore};
 ghost use Rattle.sv39_walk.specs.Cache.{Fits, KeepsFits};
 ghost use Rattle.rv_step.specs.Site.{Site};
 ghost use Rattle.rv_step.specs.Kept.{KeepsText};
@@ -399,7 +398,7 @@ impl Board {
         );
         say(&mut self.console, done.put);
         push_vcpu(&mut self.schedule, i);
-        self.end = end_by(&self.rules, &self.slots, done.left.end);
+        self.end = end_by(&self.rules, &self.slots, at, done.left.end);
     }
 
     /// One step of the full machine, which reads its instruction from the original memory. Kernel text and the size of
@@ -427,22 +426,22 @@ impl Board {
         flat(&self.ram)
     }
 
-    /// What vCPU i does by these windows.
+    /// What vCPU i, which may step, does by these windows.
     #[tactic(auto, unfolding(crate::specs::Seen::verdict_of))]
     fn verdict<S: SecondStage>(&mut self, i: VcpuNo, seen: &Windows, stage: &S) -> Verdict
+        requires may { may self.old.rules self.old.state i ≡ true }
         requires stage { IsFor (S.text stage.now) (S.ram stage.now) self.old.state.ram }
         ensures value { result ≡ verdict_of self.old.rules self.old.state i seen.now }
         ensures stays { self.new ≡ self.old }
     {
-        if !self.may(i) {
-            return Verdict::Idle;
-        }
         let start = self.next_start(i, stage);
         judge(self.ram.text(), seen, start)
     }
 
     /// What stands at a trap of vCPU i on the zero at a place of text: the clock, the place and the call chain.
-    fn trapped(&self, i: VcpuNo, view: ViewNo, place: Gpa) -> Trapped
+    #[cold]
+    #[inline(never)]
+    pub fn trapped(&self, i: VcpuNo, view: ViewNo, place: Gpa) -> Trapped
         requires { i < length self.now.state.slots }
         ensures { result ≡ trapped_at self.now.state i view place }
     {
@@ -460,21 +459,39 @@ impl Board {
     /// One step by the windows that a lane holds of a view, whatever is in them: a step, a need of a line, or a trap on
     /// a zero outside the cleared range; all but a step leave the board as it was. Kernel text and the size of memory
     /// stay, so the stage fits the board after the step too.
-    #[tactic(auto, unfolding(crate::specs::Seen::after_verdict))]
+    #[tactic(auto, unfolding(crate::specs::Seen::verdict_of, crate::specs::Seen::after_verdict))]
     pub fn step_seen<S: SecondStage>(&mut self, i: VcpuNo, seen: &Windows, stage: &S) -> Seen
         requires stage { IsFor (S.text stage.now) (S.ram stage.now) self.old.state.ram }
         ensures after { self.new ≡ after_verdict self.old i (verdict_of self.old.rules self.old.state i seen.now) }
-        ensures answer { result ≡ seen_by self.old.state i seen.now.view (verdict_of self.old.rules self.old.state i seen.now) }
+        ensures answer { result ≡ seen_by self.old.rules (verdict_of self.old.rules self.old.state i seen.now) }
+        ensures keeps { KeepsText self.old.state.ram self.new.state.ram }
+        ensures stage { IsFor (S.text stage.now) (S.ram stage.now) self.new.state.ram }
+    {
+        if !self.may(i) {
+            return Seen::Over;
+        }
+        self.step_ready(i, seen, stage)
+    }
+
+    /// The same of a vCPU that may step.
+    #[inline(always)]
+    #[tactic(auto, unfolding(crate::specs::Seen::after_verdict))]
+    pub fn step_ready<S: SecondStage>(&mut self, i: VcpuNo, seen: &Windows, stage: &S) -> Seen
+        requires may { may self.old.rules self.old.state i ≡ true }
+        requires stage { IsFor (S.text stage.now) (S.ram stage.now) self.old.state.ram }
+        ensures after { self.new ≡ after_verdict self.old i (verdict_of self.old.rules self.old.state i seen.now) }
+        ensures answer { result ≡ seen_by self.old.rules (verdict_of self.old.rules self.old.state i seen.now) }
         ensures keeps { KeepsText self.old.state.ram self.new.state.ram }
         ensures stage { IsFor (S.text stage.now) (S.ram stage.now) self.new.state.ram }
     {
         match self.verdict(i, seen, stage) {
             Verdict::Idle => Seen::Over,
             Verdict::Needs(line) => Seen::Need(line),
-            Verdict::Zeroes(place) => Seen::Zero(self.trapped(i, seen.view, place)),
+            Verdict::Zeroes(place) => Seen::Zero(place),
             Verdict::Goes(start) => {
+                let hooked = is_at_hook(&self.rules, &start);
                 self.go_on(i, start, stage);
-                Seen::Stepped
+                Seen::Stepped { hooked }
             }
         }
     }

@@ -1,7 +1,7 @@
 //! What every step of the machine leaves as it is, whatever it begins with: by the original memory or by windows. Nothing
 //! here runs: each function has a law as its contract.
 
-ghost use Rattle.guest_board.specs.Laws.{ClockCountsSteps, EndsChangeNothing, EndsStay, FullStepsBegin, IdleRunsHaveEnded, IdleVcpusStay, NumberOfVcpusStays, StepsCountOne, StepsKeepText, StepsLeaveOthers, StepsReleaseOthers};
+ghost use Rattle.guest_board.specs.Laws.{ClockCountsSteps, EndsChangeNothing, EndsStay, FullStepsBegin, IdleRunsHaveEnded, IdleVcpusStay, NamesStay, NumberOfVcpusStays, StepsCountOne, StepsKeepText, StepsLeaveOthers, StepsReleaseOthers};
 
 /// A step of the full machine is a step that begins with what is next by the original memory.
 #[tactic(auto, using(crate::proofs::Steps::full_steps_begin))]
@@ -40,6 +40,12 @@ pub fn steps_count_one()
 #[tactic(auto, using(crate::proofs::Idle::ends_stay))]
 pub fn ends_stay()
     ensures { EndsStay }
+{}
+
+/// A step that does not fetch the hook's place keeps the name of its vCPU.
+#[tactic(auto, using(crate::proofs::Steps::names_stay))]
+pub fn names_stay()
+    ensures { NamesStay }
 {}
 
 /// A vCPU that may not step may not after a step of another either.

@@ -4,15 +4,13 @@ ghost use Rattle.std.specs.Prelude.{◌≡◌, ◌≤◌, ◌<◌, true, option_
 ghost use Rattle.fc_numbers.specs.Spans.{AreRangesFrom, in_text, offset_in, text_size};
 ghost use Rattle.fc_numbers.specs.declared.places.TheConstants.{RAM_START};
 ghost use Rattle.fc_numbers.specs.declared.spans.TheConstants.{TEXT_MOST};
-ghost use Rattle.guest_board.specs.Fetch.{text_place, with_halves};
 ghost use Rattle.guest_board.specs.Step.{place_of};
 ghost use Rattle.guest_board.specs.SeenFacts.{IsPlacedIn};
-ghost use Rattle.guest_board.specs.Seen.{by_start, by_place, by_window, by_halves, half_in_line, is_cleared, line_no, window_at};
+ghost use Rattle.guest_board.specs.Seen.{by_start, by_window, by_halves, is_cleared, line_no, window_at};
 
 use crate::fetch::{Fetched, place_in_text, replace_halves};
 use crate::step::StepStart;
 use arrayvec::ArrayVec;
-use chain_log::entry::Trapped;
 use fc_numbers::places::{Gpa, Span, ViewNo};
 use fc_numbers::spans::offset_of;
 use fc_numbers::window::{LINE, Window};
@@ -39,14 +37,14 @@ pub enum Verdict {
 }
 
 /// What a step over windows did.
-#[derive(Drop)]
+#[derive(Debug, Clone, Copy)]
 pub enum Seen {
-    /// The vCPU stepped.
-    Stepped,
+    /// The vCPU stepped; `hooked` where the step fetched the hook's place, and only then may the vCPU have another name.
+    Stepped { hooked: bool },
     /// No window of the line of this number is held.
     Need(u32),
     /// The halfword at a place is zero, outside the cleared places.
-    Zero(Trapped),
+    Zero(Gpa),
     /// The vCPU may not step.
     Over,
 }
@@ -70,9 +68,10 @@ fn read_halves(cleared: &Option<Span>, got: Fetched, place: Gpa, first: u16, sec
     }
 }
 
-/// The offset in text of a place.
+/// The offset in text of a place that may lie behind the first range.
+#[inline(never)]
 #[tactic(auto, using(crate::proofs::Parts::few_bytes))]
-fn offset_at(text: &[Span], place: Gpa) -> u64
+fn offset_behind(text: &[Span], place: Gpa) -> u64
     requires ranges { AreRangesFrom RAM_START text.now }
     requires few { text_size text.now ≤ TEXT_MOST }
     requires inside { in_text text.now place ≡ true }
@@ -82,6 +81,21 @@ fn offset_at(text: &[Span], place: Gpa) -> u64
     match offset_of(text, place) {
         Some(offset) => offset,
         None => unreachable!(),
+    }
+}
+
+/// The offset in text of a place. Most texts are one range, which is looked at first.
+#[tactic(auto, using(crate::proofs::Parts::few_bytes))]
+fn offset_at(text: &[Span], place: Gpa) -> u64
+    requires ranges { AreRangesFrom RAM_START text.now }
+    requires few { text_size text.now ≤ TEXT_MOST }
+    requires inside { in_text text.now place ≡ true }
+    ensures value { result ≡ offset_in text.now place }
+    ensures below { result < TEXT_MOST }
+{
+    match text {
+        [first, ..] if first.contains(place) => place.0 - first.start.0,
+        _ => offset_behind(text, place),
     }
 }
 

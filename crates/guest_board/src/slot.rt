@@ -65,20 +65,26 @@ pub(crate) fn break_others(slots: &mut [Slot], at: usize, wrote: Option<Gpa>)
     }
 }
 
-fn are_spent(rules: &Rules, slots: &[Slot]) -> bool
+/// Whether no vCPU has steps left. Vcpu `at`, which has just stepped, is looked at first.
+fn are_spent(rules: &Rules, slots: &[Slot], at: usize) -> bool
+    requires { at < length slots.now }
     ensures { result ≡ is_spent rules.now slots.now }
 {
     let steps = rules.steps;
+    if slots[at].made < steps {
+        return false;
+    }
     slots.iter().all(|slot| steps <= slot.made)
 }
 
-/// The end after a step that ends the run so.
-pub(crate) fn end_by(rules: &Rules, slots: &[Slot], end: Option<End>) -> Option<End>
+/// The end after a step of vCPU `at` that ends the run so.
+pub(crate) fn end_by(rules: &Rules, slots: &[Slot], at: usize, end: Option<End>) -> Option<End>
+    requires { at < length slots.now }
     ensures { result ≡ end_after rules.now slots.now end }
 {
     match end {
         Some(end) => Some(end),
-        None => if are_spent(rules, slots) {
+        None => if are_spent(rules, slots, at) {
             Some(End::Spent)
         } else {
             None

@@ -86,6 +86,7 @@ fn trap(v: &mut Vcpu, cause: u64, tval: u64)
     v.mode = Mode::Vs;
 }
 
+#[inline(always)]
 fn settle(v: &mut Vcpu, effect: Effect, bits: u32, nesting: Nesting) -> StepOutcome
     ensures vcpu { v.new ≡ vcpu_after effect bits v.old }
     ensures left { result ≡ left_by effect nesting }
@@ -113,6 +114,7 @@ fn settle(v: &mut Vcpu, effect: Effect, bits: u32, nesting: Nesting) -> StepOutc
     }
 }
 
+#[inline(always)]
 #[tactic(auto, unfolding(crate::specs::Made::nesting_of))]
 fn nesting_by(inst: &Inst) -> Nesting
     ensures { result ≡ nesting_of inst.now }
@@ -184,34 +186,33 @@ fn carry_out_fetch<S: SecondStage>(
         in let s : Site = record { vcpu = v.old; ram = ram.old; devices = feed.old }
         in made ≡ made_by (Begun got) clock s }
 {
-    match got {
-        Fetched::Short { half, .. } => {
-            let code = Code {
-                inst: decode16(half),
-                bits: half as u32,
-                len: 2,
-            };
-            act(code, v, ram, cache, feed, stage, clock)
-        }
+    let code = match got {
+        Fetched::Short { half, .. } => Code {
+            inst: decode16(half),
+            bits: half as u32,
+            len: 2,
+        },
         Fetched::Long { first, second, .. } => {
             let bits = first as u32 + 65536 * second as u32;
-            let code = Code {
+            Code {
                 inst: decode32(bits),
                 bits,
                 len: 4,
-            };
-            act(code, v, ram, cache, feed, stage, clock)
+            }
         }
         Fetched::Faults { cause, tval } => {
             trap(v, cause, tval);
-            quiet(left_plain(Nesting::Traps))
+            return quiet(left_plain(Nesting::Traps));
         }
-        Fetched::Stops(stop) => quiet(StepOutcome {
-            end: Some(End::Stopped(stop)),
-            wrote: None,
-            nesting: Nesting::Stays,
-        }),
-    }
+        Fetched::Stops(stop) => {
+            return quiet(StepOutcome {
+                end: Some(End::Stopped(stop)),
+                wrote: None,
+                nesting: Nesting::Stays,
+            });
+        }
+    };
+    act(code, v, ram, cache, feed, stage, clock)
 }
 
 /// The rest of a step that begins so.
@@ -244,6 +245,7 @@ pub(crate) fn carry_out<S: SecondStage>(
 }
 
 /// The interrupt that is due at this clock, if one is. The lines are asked for only where one may be taken.
+#[inline(always)]
 fn due_now(v: &Vcpu, feed: &Feed, clock: u64) -> Option<u8>
     ensures { result ≡ due v.now.csr v.now.mode (lines_of feed.now v.now.number clock) }
 {

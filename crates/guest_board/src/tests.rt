@@ -232,28 +232,35 @@ fn a_step_over_windows_needs_traps_and_goes(rt: HostRuntime) -> Result<(), Fail>
     );
     seen.held.push(window(0, 0, 0x00ef, 0x00c0));
     assert!(rt;
-        matches!(step_by(&mut board, &seen, &stage), Seen::Stepped),
+        matches!(
+            step_by(&mut board, &seen, &stage),
+            Seen::Stepped { hooked: false }
+        ),
         "a jump"
     );
-    match step_by(&mut board, &seen, &stage) {
-        Seen::Zero(trap) => {
-            assert!(rt; trap.view.0 == 1, "view");
-            assert!(rt; trap.vcpu.0 == 0, "vcpu");
-            assert!(rt; trap.at == 1, "clock of the trap");
-            assert!(rt; trap.pc.0 == 0x8000_000c, "place");
-            assert!(rt; trap.chain.len() == 1, "length of the chain");
-            let caller = &trap.chain[0];
-            assert!(rt; caller.0 == 0x8000_0004, "caller");
-        }
-        _ => assert!(rt; false, "a zero"),
-    }
+    assert!(rt;
+        matches!(step_by(&mut board, &seen, &stage), Seen::Zero(place) if place.0 == 0x8000_000c),
+        "a zero"
+    );
+    assert!(rt; board.vcpus() == 1, "vcpus");
+    let trap = board.trapped(VcpuNo(0), seen.view, Gpa(0x8000_000c));
+    assert!(rt; trap.view.0 == 1, "view");
+    assert!(rt; trap.vcpu.0 == 0, "vcpu");
+    assert!(rt; trap.at == 1, "clock of the trap");
+    assert!(rt; trap.pc.0 == 0x8000_000c, "place");
+    assert!(rt; trap.chain.len() == 1, "length of the chain");
+    let caller = &trap.chain[0];
+    assert!(rt; caller.0 == 0x8000_0004, "caller");
     assert!(rt; board.clock() == 1, "clock after the trap");
     seen.cleared = Some(Span {
         start: Gpa(0x8000_000c),
         end: Gpa(0x8000_1000),
     });
     assert!(rt;
-        matches!(step_by(&mut board, &seen, &stage), Seen::Stepped),
+        matches!(
+            step_by(&mut board, &seen, &stage),
+            Seen::Stepped { hooked: false }
+        ),
         "an own zero"
     );
     assert!(rt; board.end() == Some(End::Spent), "end");
@@ -292,7 +299,10 @@ fn first_window_of_a_line_counts(rt: HostRuntime) -> Result<(), Fail> {
     seen.held.push(window(0, 31, 0x0513, 0x0420));
     seen.held.push(window(0, 31, 0x0513, 0x0430));
     assert!(rt;
-        matches!(step_by(&mut board, &seen, &stage), Seen::Stepped),
+        matches!(
+            step_by(&mut board, &seen, &stage),
+            Seen::Stepped { hooked: false }
+        ),
         "two windows of the line"
     );
     assert!(rt; board.vcpus() == 1, "vcpus");

@@ -1,22 +1,25 @@
 -- A turn as the events that it is made of.
-use Rattle.std.proofs.Common.{◌≡◌, ℕ, zero, suc, ◌+◌, ◌-◌, ◌<◌, ◌≤◌, true, false, refl, sym, ap, subst, ◌∙◌, arith, Option, Some, None, length}
+use Rattle.std.proofs.Common.{◌≡◌, Bool, ℕ, zero, suc, ◌+◌, ◌-◌, ◌<◌, true, false, refl, sym, ap, subst, ◌∙◌, arith, Some, None, length}
 use Rattle.view_file.specs.declared.views.Views.{Views}
 use Rattle.guest_board.specs.declared.seen.Verdict.{Verdict}
 use Rattle.guest_board.specs.declared.seen.Verdict.TheVariants.{Idle, Needs, Zeroes, Goes}
 use Rattle.guest_board.specs.declared.seen.Windows.{Windows}
-use Rattle.guest_board.specs.declared.seen.Seen.{Seen}
 use Rattle.guest_board.specs.declared.seen.Seen.TheVariants as seen
-use Rattle.guest_board.specs.Board.{Seat, may, next_start}
-use Rattle.guest_board.specs.Seen.{after_verdict, by_start, seen_by, verdict_of}
+use Rattle.guest_board.specs.declared.rules.Rules.{Rules}
+use Rattle.guest_board.specs.Step.{place_of}
+use Rattle.guest_board.specs.Board.{Seat, is_same_place, may, name_of, next_start}
+use Rattle.guest_board.proofs.Steps.{names_stay}
+use Rattle.view_file.specs.Named.{view_named}
+use Rattle.guest_board.specs.Seen.{after_verdict, seen_by, trapped_at, verdict_of}
 use Rattle.run_evidence.proofs.Steps.{stepped-slots}
 use Rattle.vcpu_core.specs.declared.lane.Lane.{Lane}
-use Rattle.vcpu_core.specs.declared.lane.Phase.{Phase}
-use Rattle.vcpu_core.specs.declared.lane.Phase.TheVariants.{Running}
+use Rattle.vcpu_core.specs.declared.lane.Phase.TheVariants.{Running, Trapped}
 use Rattle.vcpu_core.specs.declared.lane.Then.{Then}
-use Rattle.vcpu_core.specs.declared.lane.Then.TheVariants.{Limit, Over}
-use Rattle.vcpu_core.specs.Lanes.{after_turn}
+use Rattle.vcpu_core.specs.declared.lane.Taken.TheVariants.{End, Step}
+use Rattle.vcpu_core.specs.declared.lane.Then.TheVariants.{Limit, Need, Over, Zero}
+use Rattle.vcpu_core.specs.Lanes.{after_turn, in_phase}
 use Rattle.vcpu_core.specs.declared.lane.Turned.{Turned}
-use Rattle.vcpu_core.specs.Turns.{AfterTurns, IsPhaseAfter, board_after, turn_end_at, lane_after, turns_by, turns_from, verdict_for, windows_for}
+use Rattle.vcpu_core.specs.Turns.{AfterTurns, IsPhaseAfter, board_after, lane_after, taken_by, turn_end_at, turns_by, turns_from, verdict_for, windows_for}
 use Rattle.vcpu_core.proofs.Verdicts.{start-busy, verdict-may, verdict-stuck}
 
 -- a turn that goes on after an event
@@ -65,15 +68,36 @@ pub running-on : (views : Views) (b : Seat) (l : Lane) → turn_end_at (verdict_
 running-on views b l e = running-by (verdict_for views b l) b l (windows_for views b l) e
 
 -- a step over windows answers that the vCPU may not step only where it may not
-over-by : (b : Seat) (i view : ℕ) (v : Verdict) → seen_by b.state i view v ≡ seen.Over → v ≡ Idle
-over-by b i view Idle e = refl
-over-by b i view (Needs n) e = absurd (cc)
-over-by b i view (Zeroes p) e = absurd (cc)
-over-by b i view (Goes start) e = absurd (cc)
+over-by : (rules : Rules) (v : Verdict) → seen_by rules v ≡ seen.Over → v ≡ Idle
+over-by rules Idle e = refl
+over-by rules (Needs n) e = absurd (cc)
+over-by rules (Zeroes p) e = absurd (cc)
+over-by rules (Goes start) e = absurd (cc)
 
-pub not_over : (b : Seat) (i : ℕ) (w : Windows) → may b.rules b.state i ≡ true → seen.Over ≡ seen_by b.state i w.view (verdict_of b.rules b.state i w) → ⊥
+pub not_over : (b : Seat) (i : ℕ) (w : Windows) → may b.rules b.state i ≡ true → seen.Over ≡ seen_by b.rules (verdict_of b.rules b.state i w) → ⊥
 not_over b i w m is =
-    start-busy b.state.ram.text w (next_start b.state i) (sym (verdict-may b.rules b.state i w m) ∙ over-by b i w.view (verdict_of b.rules b.state i w) (sym is))
+    start-busy b.state.ram.text w (next_start b.state i) (sym (verdict-may b.rules b.state i w m) ∙ over-by b.rules (verdict_of b.rules b.state i w) (sym is))
+
+-- a step over windows answers a zero only where one traps, and then the board is as it was
+pub zero-by : (rules : Rules) (v : Verdict) (p : ℕ) → seen.Zero p ≡ seen_by rules v → v ≡ Zeroes p
+zero-by rules Idle p e = absurd (cc)
+zero-by rules (Needs n) p e = absurd (cc)
+zero-by rules (Zeroes q) p e = cc
+zero-by rules (Goes start) p e = absurd (cc)
+
+pub zero-board : (b b' : Seat) (i p : ℕ) (v : Verdict) → b' ≡ after_verdict b i v → v ≡ Zeroes p → b' ≡ b
+unfolding after_verdict
+zero-board b b' i p v after zeroes = after ∙ ap (λ (x : Verdict). after_verdict b i x) zeroes
+
+-- the lane after it
+pub zero-lane : (views : Views) (b b' : Seat) (l : Lane) (w : Windows) (p : ℕ) → w ≡ windows_for views b l → b' ≡ after_verdict b l.vcpu (verdict_of b.rules b.state l.vcpu w)
+    → seen.Zero p ≡ seen_by b.rules (verdict_of b.rules b.state l.vcpu w) → in_phase l w (Trapped (trapped_at b'.state l.vcpu w.view p)) ≡ lane_after views b l
+zero-lane views b b' l w p is after answer =
+    let v : verdict_of b.rules b.state l.vcpu w ≡ Zeroes p = zero-by b.rules (verdict_of b.rules b.state l.vcpu w) p answer in
+    let same : b' ≡ b = zero-board b b' l.vcpu p (verdict_of b.rules b.state l.vcpu w) after v in
+    ap (λ (x : Seat). in_phase l w (Trapped (trapped_at x.state l.vcpu w.view p))) same
+    ∙ ap (λ (x : Verdict). after_turn b.state l.vcpu l w x) (sym v)
+    ∙ ap (λ (x : Windows). after_turn b.state l.vcpu l x (verdict_of b.rules b.state l.vcpu x)) is
 
 -- an event of a vCPU that may not step
 pub stuck-board : (views : Views) (b : Seat) (l : Lane) → may b.rules b.state l.vcpu ≡ false → b ≡ board_after views b l
@@ -83,8 +107,35 @@ stuck-board views b l m = ap (λ (v : Verdict). after_verdict b l.vcpu v) (sym (
 pub stuck-lane : (views : Views) (b : Seat) (l : Lane) → may b.rules b.state l.vcpu ≡ false → l ≡ lane_after views b l
 stuck-lane views b l m = ap (λ (v : Verdict). after_turn b.state l.vcpu l (windows_for views b l) v) (sym (verdict-stuck b.rules b.state l.vcpu (windows_for views b l) m))
 
-pub stuck-ends : (views : Views) (b : Seat) (l : Lane) → may b.rules b.state l.vcpu ≡ false → Some Over ≡ turn_end_at (verdict_for views b l)
-stuck-ends views b l m = ap (λ (v : Verdict). turn_end_at v) (sym (verdict-stuck b.rules b.state l.vcpu (windows_for views b l) m))
+pub stuck-ends : (views : Views) (b : Seat) (l : Lane) → may b.rules b.state l.vcpu ≡ false → End Over ≡ taken_by b.rules (verdict_for views b l)
+stuck-ends views b l m = ap (λ (v : Verdict). taken_by b.rules v) (sym (verdict-stuck b.rules b.state l.vcpu (windows_for views b l) m))
+
+-- what an event is to its turn, and where the turn ends
+pub taken-ends : (rules : Rules) (v : Verdict) (then : Then) → End then ≡ taken_by rules v → Some then ≡ turn_end_at v
+taken-ends rules Idle then e = let t : then ≡ Over = cc in ap (λ (x : Then). Some x) t
+taken-ends rules (Needs n) then e = let t : then ≡ Need = cc in ap (λ (x : Then). Some x) t
+taken-ends rules (Zeroes p) then e = let t : then ≡ Zero = cc in ap (λ (x : Then). Some x) t
+taken-ends rules (Goes start) then e = absurd (cc)
+
+pub taken-goes : (rules : Rules) (v : Verdict) (hooked : Bool) → Step hooked ≡ taken_by rules v → None ≡ turn_end_at v
+taken-goes rules Idle hooked e = absurd (cc)
+taken-goes rules (Needs n) hooked e = absurd (cc)
+taken-goes rules (Zeroes p) hooked e = absurd (cc)
+taken-goes rules (Goes start) hooked e = refl
+
+-- after a step away from the hook the vCPU has its name
+name-by : (b : Seat) (i : ℕ) (v : Verdict) → i < length b.state.slots → Step false ≡ taken_by b.rules v → name_of (after_verdict b i v).state i ≡ name_of b.state i
+unfolding after_verdict
+name-by b i Idle inside e = absurd (cc)
+name-by b i (Needs n) inside e = absurd (cc)
+name-by b i (Zeroes p) inside e = absurd (cc)
+name-by b i (Goes start) inside e = let away : is_same_place (place_of start) b.rules.hook ≡ false = cc in names_stay b.rules b.state i start inside away
+
+pub name-stays : (views : Views) (b b' : Seat) (l : Lane) (view : ℕ) (hooked : Bool) → l.vcpu < length b.state.slots → view ≡ view_named views (name_of b.state l.vcpu)
+    → b' ≡ board_after views b l → Step hooked ≡ taken_by b.rules (verdict_for views b l) → hooked ≡ false → view ≡ view_named views (name_of b'.state l.vcpu)
+name-stays views b b' l view hooked inside is after taken away =
+    let step : Step false ≡ taken_by b.rules (verdict_for views b l) = ap (λ (h : Bool). Step h) (sym away) ∙ taken in
+    is ∙ ap (λ n. view_named views n) (sym (name-by b l.vcpu (verdict_for views b l) inside step) ∙ ap (λ (x : Seat). name_of x.state l.vcpu) (sym after))
 
 -- a turn in its loop
 module _ (views : Views) (limit steps : ℕ) (b0 b b' : Seat) (l0 l l' : Lane) (exact : turns_from views steps (limit - steps) b l ≡ turns_from views 0 limit b0 l0)

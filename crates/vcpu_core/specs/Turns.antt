@@ -7,12 +7,16 @@ use Rattle.view_file.specs.Named.{view_named}
 use Rattle.guest_board.specs.declared.seen.Windows.{Windows}
 use Rattle.guest_board.specs.declared.seen.Verdict.{Verdict}
 use Rattle.guest_board.specs.declared.seen.Verdict.TheVariants.{Idle, Needs, Zeroes, Goes}
-use Rattle.guest_board.specs.Board.{Seat, name_of}
+use Rattle.guest_board.specs.declared.rules.Rules.{Rules}
+use Rattle.guest_board.specs.Step.{place_of}
+use Rattle.guest_board.specs.Board.{Seat, is_same_place, name_of}
 use Rattle.guest_board.specs.Seen.{verdict_of, after_verdict}
 use Rattle.vcpu_core.specs.declared.lane.Lane.{Lane}
 use Rattle.vcpu_core.specs.declared.lane.Phase.{Phase}
 use Rattle.vcpu_core.specs.declared.lane.Phase.TheVariants.{Running}
 use Rattle.vcpu_core.specs.declared.lane.Turned.{Turned}
+use Rattle.vcpu_core.specs.declared.lane.Taken.{Taken}
+use Rattle.vcpu_core.specs.declared.lane.Taken.TheVariants.{End, Step}
 use Rattle.vcpu_core.specs.declared.lane.Then.{Then}
 use Rattle.vcpu_core.specs.declared.lane.Then.TheVariants.{Limit, Need, Zero, Over}
 use Rattle.vcpu_core.specs.declared.lane.Went.{Went}
@@ -62,6 +66,13 @@ turn_end_at Idle = Some Over
 turn_end_at (Needs n) = Some Need
 turn_end_at (Zeroes place) = Some Zero
 turn_end_at (Goes start) = None
+
+-- what the event is to its turn
+abbrev pub taken_by : Rules → Verdict → Taken
+taken_by rules Idle = End Over
+taken_by rules (Needs n) = End Need
+taken_by rules (Zeroes place) = End Zero
+taken_by rules (Goes start) = Step (is_same_place (place_of start) rules.hook)
 
 -- what the one event of a turn with limit 1 was
 abbrev pub went_then : Then → Went

@@ -41,6 +41,13 @@ pub enum Then {
     Over,
 }
 
+/// What an event of a lane that runs is to its turn: a step, `hooked` where it fetched the hook's place; or its end.
+#[derive(Debug, Clone, Copy)]
+pub enum Taken {
+    Step { hooked: bool },
+    End(Then),
+}
+
 /// What a turn did.
 #[derive(Debug, Clone, Copy, PartialEq, Eq)]
 pub struct Turned {

@@ -4,26 +4,21 @@
 //! logs that its board, its view and its lane are of. So one thread with a whole core, and many that take the board or a
 //! view in turn, use the same rows.
 
-ghost use Rattle.std.specs.Prelude.{◌≡◌, ◌≤◌, ◌<◌, ◌+◌, ◌-◌, ◌*◌, ◌^◌, true, length};
-ghost use Rattle.fc_numbers.specs.Spans.{text_size};
-ghost use Rattle.function_table.specs.Groups.{groups_count, group_at, in_groups_text};
-ghost use Rattle.view_file.specs.declared.views.TheConstants.{APPS_MOST};
+ghost use Rattle.std.specs.Prelude.{◌≡◌, ◌≤◌, ◌<◌, ◌+◌, ◌-◌, ◌*◌, false, length};
 ghost use Rattle.view_file.specs.Named.{view_named};
-ghost use Rattle.view_store.specs.Paged.{patched};
-ghost use Rattle.rv_step.specs.Kept.{KeepsText};
 ghost use Rattle.guest_board.specs.declared.seen.Windows.{Windows};
-ghost use Rattle.guest_board.specs.declared.seen.Verdict.{Verdict};
 ghost use Rattle.guest_board.specs.Board.{name_of};
-ghost use Rattle.guest_board.specs.Seen.{verdict_of, after_verdict};
+ghost use Rattle.guest_board.specs.Seen.{trapped_at};
+ghost use Rattle.vcpu_core.specs.declared.lane.Phase.TheVariants.{Trapped as TrappedAt};
 ghost use Rattle.vcpu_core.specs.Stages.{AreStagesFor};
-ghost use Rattle.vcpu_core.specs.Lanes.{IsLooked, IsTrapped, IsWanting, after_turn, fill_row, look_row, mend_answer, mend_row, mend_view, seated, with_newest};
+ghost use Rattle.vcpu_core.specs.Lanes.{in_phase, IsLooked, IsTrapped, IsWanting, fill_row, look_row, mend_answer, mend_row, mend_view, seated, with_newest};
 ghost use Rattle.vcpu_core.specs.Placed.{IsPlacedPhase};
 ghost use Rattle.vcpu_core.specs.Rows.{FillKeeps, LookKeeps, MendKeeps, TurnsKeep};
-ghost use Rattle.vcpu_core.specs.Turns.{IsPhaseAfter, board_after, turn_end_at, lane_after, turns_from, turns_of, verdict_for};
+ghost use Rattle.vcpu_core.specs.Turns.{IsPhaseAfter, board_after, lane_after, taken_by, turns_of, verdict_for};
 
-use crate::lane::{Lane, Phase, Then, Turned};
+use crate::lane::{Lane, Phase, Taken, Then, Turned};
 use arrayvec::ArrayVec;
-use fc_numbers::places::ViewNo;
+use fc_numbers::places::{Gpa, VcpuNo, ViewNo};
 use fc_numbers::window::Window;
 use function_table::table::Table;
 use gstage::table::GTable;
@@ -45,33 +40,66 @@ fn seat(view: ViewNo, windows: &mut Windows)
     }
 }
 
-/// One event of a lane that runs: why the turn ends, or None after a step. Each access of a step asks the table of the
-/// vCPU's view where its place lies.
-fn take_step(board: &mut Board, views: &Views, stages: &[GTable], lane: &mut Lane) -> Option<Then>
+/// Puts the lane into the phase of a trap on the zero at this place.
+#[cold]
+#[inline(never)]
+fn note_trap(board: &Board, lane: &mut Lane, place: Gpa)
+    requires { lane.old.vcpu < length board.now.state.slots }
+    ensures { lane.new ≡ in_phase lane.old lane.old.windows (TrappedAt (trapped_at board.now.state lane.old.vcpu lane.old.windows.view place)) }
+{
+    let trapped = board.trapped(lane.vcpu, lane.windows.view, place);
+    lane.phase = Phase::Trapped(trapped);
+}
+
+/// One event of a lane that runs, whose vCPU has this view. Each access of a step asks the table of the view where its
+/// place lies.
+fn take_step(
+    board: &mut Board,
+    views: &Views,
+    stages: &[GTable],
+    view: ViewNo,
+    lane: &mut Lane,
+) -> Taken
     requires number { lane.old.vcpu < length board.old.state.slots }
     requires phase { lane.old.phase ≡ Phase.Running }
+    requires view { view ≡ view_named views.now (name_of board.old.state lane.old.vcpu) }
+    requires within { view ≤ length views.now.apps }
     requires stages { AreStagesFor board.old.state.ram (length views.now.apps + 1) stages.now }
     ensures board { board.new ≡ board_after views.now board.old lane.old }
     ensures lane { lane.new ≡ lane_after views.now board.old lane.old }
-    ensures answer { result ≡ turn_end_at (verdict_for views.now board.old lane.old) }
+    ensures answer { result ≡ taken_by board.old.rules (verdict_for views.now board.old lane.old) }
     ensures stages { AreStagesFor board.new.state.ram (length views.now.apps + 1) stages.now }
 {
     if !board.may(lane.vcpu) {
-        return Some(Then::Over);
+        return Taken::End(Then::Over);
     }
-    let view = views.choose(board.name_of(lane.vcpu));
     seat(view, &mut lane.windows);
-    match board.step_seen(lane.vcpu, &lane.windows, &stages[view.0 as usize]) {
-        Seen::Over => Some(Then::Over),
-        Seen::Stepped => None,
+    match board.step_ready(lane.vcpu, &lane.windows, &stages[view.0 as usize]) {
+        Seen::Over => Taken::End(Then::Over),
+        Seen::Stepped { hooked } => Taken::Step { hooked },
         Seen::Need(line) => {
             lane.phase = Phase::Wants(line);
-            Some(Then::Need)
+            Taken::End(Then::Need)
         }
-        Seen::Zero(trapped) => {
-            lane.phase = Phase::Trapped(trapped);
-            Some(Then::Zero)
+        Seen::Zero(place) => {
+            note_trap(board, lane, place);
+            Taken::End(Then::Zero)
         }
+    }
+}
+
+/// The view of a vCPU after a step: it is asked for anew only where the step fetched the hook's place.
+fn view_after(hooked: bool, view: ViewNo, board: &Board, views: &Views, vcpu: VcpuNo) -> ViewNo
+    requires number { vcpu < length board.now.state.slots }
+    requires view { hooked ≡ false → view ≡ view_named views.now (name_of board.now.state vcpu) }
+    requires within { view ≤ length views.now.apps }
+    ensures value { result ≡ view_named views.now (name_of board.now.state vcpu) }
+    ensures within { result ≤ length views.now.apps }
+{
+    if hooked {
+        views.choose(board.name_of(vcpu))
+    } else {
+        view
     }
 }
 
@@ -93,10 +121,11 @@ pub fn turn(
     ensures stages { AreStagesFor board.new.state.ram (length views.now.apps + 1) stages.now }
     ensures kept { TurnsKeep views.now board.old lane.old board.new lane.new result.steps }
 {
+    let mut view = views.choose(board.name_of(lane.vcpu));
     for steps in 0..limit {
-        match take_step(board, views, stages, lane) {
-            None => {}
-            Some(then) => return Turned { steps, then },
+        match take_step(board, views, stages, view, lane) {
+            Taken::Step { hooked } => view = view_after(hooked, view, board, views, lane.vcpu),
+            Taken::End(then) => return Turned { steps, then },
         }
     }
     Turned {
