@@ -1,5 +1,6 @@
 pub mod Printed
 pub mod Events
+pub mod OneAlone
 pub mod Rounds
 pub mod Ended
 pub mod Lone

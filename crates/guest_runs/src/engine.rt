@@ -1,6 +1,6 @@
 //! The events of a run, to its end.
 
-ghost use Rattle.std.specs.Prelude.{◌≡◌, ◌<◌, true, false};
+ghost use Rattle.std.specs.Prelude.{◌≡◌, ◌<◌, [], true, false};
 ghost use Rattle.vcpu_core.specs.World.{go_all};
 ghost use Rattle.vcpu_core.specs.Waits.{all_left};
 ghost use Rattle.guest_runs.specs.Engine.{round_of, IsIdle, RunsOut};
@@ -8,6 +8,9 @@ ghost use Rattle.guest_runs.specs.Engine.{round_of, IsIdle, RunsOut};
 use fc_numbers::places::VcpuNo;
 use vcpu_core::lane::Went;
 use vcpu_core::machine::Core;
+
+/// How many events of a run's one vCPU are asked for at once.
+const ROW: u32 = 4096;
 
 /// Makes an event of each vCPU of the script, in order. One that may not step, as after the end, does nothing.
 fn follow(core: &mut Core, script: &[VcpuNo])
@@ -36,11 +39,26 @@ fn go_round(core: &mut Core, vcpus: u8) -> bool
     went
 }
 
+/// Makes the events of a run's one vCPU, until it may not step.
+fn run_alone(core: &mut Core)
+    ensures { RunsOut [] 1 core.old core.new }
+{
+    loop {
+        if !core.go_on(VcpuNo(0), ROW) {
+            return;
+        }
+    }
+}
+
 /// Makes the events of the script, and then an event of vCPU 0, 1, .. again and again, until no vCPU may step.
 pub fn run_out(core: &mut Core, script: &[VcpuNo], vcpus: u8)
     ensures { RunsOut script.now vcpus core.old core.new }
 {
     follow(core, script);
+    if vcpus == 1 {
+        run_alone(core);
+        return;
+    }
     loop {
         if !go_round(core, vcpus) {
             return;

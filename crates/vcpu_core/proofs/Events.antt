@@ -127,7 +127,7 @@ gone-sets w i l (Wants n) = record { groups = refl; profile = refl; lane = after
 gone-sets w i l (Trapped trap) = record { groups = refl; profile = refl; lane = after_look w.groups trap l; lanes = refl }
 gone-sets w i l (Looked k) = record { groups = refl; profile = refl; lane = after_mend w.groups k.group l; lanes = refl }
 
-set-itself : (lanes : List Lane) (i : ℕ) (d : Lane) → slice_set lanes i (slice_index_or lanes i d) ≡ lanes
+pub set-itself : (lanes : List Lane) (i : ℕ) (d : Lane) → slice_set lanes i (slice_index_or lanes i d) ≡ lanes
 set-itself [] i d = refl
 set-itself (x ∷ xs) zero d = refl
 set-itself (x ∷ xs) (suc i) d = ap (λ (ls : List Lane). x ∷ ls) (set-itself xs i d)

@@ -15,6 +15,7 @@ pub mod Ended
 pub mod Events
 pub mod Waiting
 pub mod LeftOver
+pub mod InRow
 pub mod Bound
 pub mod Undisturbed
 pub mod Alone

@@ -1,6 +1,7 @@
 -- The view machine: a board, the views, and a lane for each vCPU, and what one event does to them.
 -- The rule: an event of a vCPU that may step goes by its lane's phase; a step, a need, a trap, a fill, a lookup or a mend.
 use Rattle.std.specs.Prelude.{◌≡◌, ℕ, ◌+◌, ◌<◌, ◌≤◌, if◌then◌else◌, List, [], ◌∷◌, length, slice_index_or, slice_set}
+use Rattle.std.proofs.Common.{zero, suc}
 use Rattle.function_table.specs.Groups.{Groups, IsGroups}
 use Rattle.view_file.specs.declared.views.Views.{Views}
 use Rattle.view_file.specs.declared.views.TheConstants.{APPS_MOST}
@@ -89,6 +90,16 @@ went_of w i = if may w.board.rules w.board.state i then went_in w i (lane_of w i
 abbrev pub go_all : World → List ℕ → World
 go_all w [] = w
 go_all w (i ∷ is) = go_all (go_of w i) is
+
+-- the events of vCPU i one after another, at most so many, and none after the first that is no step
+abbrev pub row_by : Went → ℕ → List ℕ → List ℕ
+row_by Over i later = []
+row_by Stepped i later = i ∷ later
+row_by Erased i later = i ∷ []
+
+unfoldable pub row_of : World → ℕ → ℕ → List ℕ
+row_of w i zero = []
+row_of w i (suc n) = row_by (went_of w i) i (row_of (go_of w i) i n)
 
 -- the members of the list that stepped
 abbrev pub kept_if : Went → ℕ → List ℕ → List ℕ

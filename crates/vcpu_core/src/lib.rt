@@ -2,7 +2,7 @@
 //!
 //! - [`lane`]: what a vCPU holds of its view, and its phase.
 //! - [`rows`]: the rows of the view machine, over the parts that each needs: steps, a fill, a lookup, a mend.
-//! - [`machine`]: the core of a run, and its one event `go`.
+//! - [`machine`]: the core of a run, its one event `go`, and several of them, `go_on`.
 //! - [`open`]: views, second-stage tables and lanes before the first event.
 //! - [`laws`]: what is true after any list of events, and what a lane keeps when other vCPUs go on.
 //!

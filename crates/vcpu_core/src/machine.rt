@@ -1,21 +1,20 @@
 //! The core of a run.
 
-ghost use Rattle.std.specs.Prelude.{◌≡◌, ◌≢◌, ◌≤◌, ◌<◌, ◌+◌, ◌*◌, ◌^◌, [], ◌∷◌, ◌++◌, ℕ, List, IfOk, length, slice_index_or, slice_set};
+ghost use Rattle.std.specs.Prelude.{◌≡◌, ◌≢◌, ◌≤◌, ◌<◌, ◌+◌, List, IfOk, length, slice_set, true, false};
 ghost use Rattle.guest_input.specs.Accepted.{IsImage, IsSetupFor};
-ghost use Rattle.function_table.specs.Groups.{groups_of, groups_count};
-ghost use Rattle.view_file.specs.declared.views.TheConstants.{APPS_MOST};
-ghost use Rattle.view_file.specs.Named.{view_named};
+ghost use Rattle.guest_ram.specs.Ram.{IsLaid};
+ghost use Rattle.guest_board.specs.Board.{may};
+ghost use Rattle.function_table.specs.Groups.{groups_of};
 ghost use Rattle.view_file.specs.Fits.{IsViewsFor};
-ghost use Rattle.view_store.specs.Paged.{PagedView};
-ghost use Rattle.run_evidence.specs.Config.{Config, image_groups};
 ghost use Rattle.vcpu_core.specs.declared.lane.Lane.{Lane};
 ghost use Rattle.vcpu_core.specs.declared.lane.Phase.{Phase};
-ghost use Rattle.vcpu_core.specs.First.{first_world, first_paged_views, first_lanes, first_paged, first_lane};
+ghost use Rattle.vcpu_core.specs.declared.lane.Phase.TheVariants.{Running};
+ghost use Rattle.vcpu_core.specs.First.{first_world};
 ghost use Rattle.vcpu_core.specs.Placed.{IsPlacedPhase};
 ghost use Rattle.vcpu_core.specs.Stages.{AreStagesFor};
 ghost use Rattle.vcpu_core.specs.Turns.{went_then};
 ghost use Rattle.vcpu_core.specs.Waits.{all_left, left_of};
-ghost use Rattle.vcpu_core.specs.World.{World, go_of, went_of, go_all, gone, went_in, IsReady, IsLaneReady, paged_in, blank_paged, lane_of, view_of};
+ghost use Rattle.vcpu_core.specs.World.{World, go_of, went_of, go_all, gone, went_in, row_of, IsReady, paged_in, lane_of};
 
 use crate::lane::{Lane, Phase, Then, Went};
 use crate::open::{start_lanes, start_stages, start_views};
@@ -195,6 +194,50 @@ impl<'a> Core<'a> {
         ensures falls { result ≢ Went.Over → all_left self.new < all_left self.old }
     {
         self.make_event(i)
+    }
+
+    /// Events of vCPU i one after another: at most `limit`, and none after the first that is no step. Answers whether the
+    /// vCPU might step; then there was one, and less is left of the run of all.
+    pub fn go_on(&mut self, i: VcpuNo, limit: u32) -> bool
+        requires some { 1 ≤ limit }
+        ensures after { self.new ≡ go_all self.old (row_of self.old i limit) }
+        ensures answer { result ≡ may self.old.board.rules self.old.board.state i }
+        ensures falls { result ≡ true → all_left self.new < all_left self.old }
+        ensures idle { result ≡ false → went_of self.new i ≡ Went.Over }
+    {
+        if !self.board.may(i) {
+            return false;
+        }
+        match self.lanes[i.0 as usize].phase {
+            Phase::Running => self.make_turn(i, limit),
+            _ => {
+                // The lane's phase says what the event is.
+                let _ = self.make_event(i);
+            }
+        }
+        true
+    }
+
+    /// Steps of vCPU i, whose lane runs, until so many were made or an event is none.
+    fn make_turn(&mut self, i: VcpuNo, limit: u32)
+        requires may { may self.old.board.rules self.old.board.state i ≡ true }
+        requires running { (lane_of self.old i).phase ≡ Running }
+        requires some { 1 ≤ limit }
+        ensures after { self.new ≡ go_all self.old (row_of self.old i limit) }
+        ensures ready { IsReady self.old }
+        ensures laid { IsLaid self.old.board.state.ram }
+    {
+        let at = i.0 as usize;
+        // The call says that the memory is laid out.
+        let _laid = self.board.ram().text();
+        // Why the turn ended shows in the lane.
+        let _ = turn(
+            &mut self.board,
+            self.profile,
+            &self.stages,
+            &mut self.lanes[at],
+            limit,
+        );
     }
 
     #[tactic(auto, unfolding(crate::specs::World::go_of, crate::specs::World::went_of))]

@@ -247,3 +247,28 @@ fn a_turn_ends_at_its_limit_and_where_no_step_is_left(rt: HostRuntime) -> Result
     assert!(rt; board.end() == Some(End::Spent));
     Ok(())
 }
+
+#[test]
+fn a_row_of_events_ends_at_its_limit_and_at_the_first_that_is_no_step(
+    rt: HostRuntime,
+) -> Result<(), Fail> {
+    let alloc = rt.alloc();
+    let parts = read(alloc, spin())?;
+    let mut core = Core::open(
+        alloc,
+        &parts.image,
+        &parts.table,
+        &parts.setup,
+        &parts.profile,
+    )?;
+    // The need of the line and its fill are a row each, and then 100 steps are 13 rows of at most 8.
+    let mut last = 0;
+    for row in 1..20 {
+        if core.go_on(VcpuNo(0), 8) {
+            last = row;
+        }
+    }
+    assert!(rt; last == 15);
+    assert!(rt; core.end() == Some(End::Spent));
+    Ok(())
+}

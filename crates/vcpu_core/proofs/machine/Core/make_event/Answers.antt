@@ -8,19 +8,13 @@ use Rattle.guest_board.specs.Board.{may}
 use Rattle.run_evidence.proofs.Steps.{may-slot}
 use Rattle.view_store.specs.Paged.{PagedView}
 use Rattle.vcpu_core.specs.declared.lane.Lane.{Lane}
-use Rattle.vcpu_core.specs.World.{World, IsReady, IsLaneReady, IsPagedReady, lane_of, paged_in, gone}
+use Rattle.vcpu_core.specs.World.{World, IsReady, IsLaneReady, IsPagedReady, paged_in, gone}
 use Rattle.gstage.specs.Table.{Table}
 use Rattle.vcpu_core.specs.Stages.{AreStagesFor}
 use Rattle.vcpu_core.specs.Whole.{world_of}
+use Rattle.vcpu_core.proofs.InRow.{ready_lane}
 use Rattle.vcpu_core.proofs.Ready.{gone-ready}
 use Rattle.vcpu_core.proofs.machine.Core.make_event.Goals as goal
-
--- the lane at a number
-ready_lane : (w : World) (i : ℕ) (l : Lane) → may w.board.rules w.board.state i ≡ true → IsReady w → l ≡ slice_index_or w.lanes i l → IsLaneReady w i l
-ready_lane w i l m r e =
-    let within : i < length w.lanes = omega (arith, may-slot w.board.rules w.board.state i m, r.lanes) in
-    let same : l ≡ lane_of w i = grind (arith, common_steps) in
-    subst (IsLaneReady w i) (sym same) (r.each i within)
 
 -- it, in the body
 ready_in : (c : goal.After-index_mut) → IsLaneReady (world_of c.self.inside) c.args.i c.index_mut.result.now

@@ -1,4 +1,4 @@
-use Rattle.std.proofs.Common.{◌≡◌, ◌+◌, ◌*◌, ◌≤◌, sym, ◌∙◌, subst, ap, arith, length, List}
+use Rattle.std.proofs.Common.{◌≡◌, ◌+◌, sym, ◌∙◌, subst, ap, arith, length, List}
 use Rattle.std.proofs.lemmas.Grind.{common_steps}
 use Rattle.function_table.specs.Groups.{Groups}
 use Rattle.view_file.specs.Named.{view_named}
