@@ -156,6 +156,7 @@ impl GuestRam {
     }
 
     /// The number at an aligned place; [`OutsideRam`] exactly for a place outside memory.
+    #[inline(always)]
     #[tactic(auto, using(crate::proofs::Room::room))]
     pub fn load(&self, at: Gpa, width: Width) -> Result<u64, OutsideRam>
         requires { at % count_of width ≡ 0 }

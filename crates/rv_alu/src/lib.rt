@@ -211,6 +211,7 @@ fn left_over_unsigned_word(a: u32, b: u32) -> u32
 }
 
 /// What an operation makes of its two sources, modulo 2^64. W operations work on the low 32 bits and sign-extend.
+#[inline(always)]
 #[tactic(auto, unfolding(crate::specs::Alu::alu_of))]
 pub fn alu(op: AluOp, a: u64, b: u64) -> u64
     ensures { result ≡ alu_of op a b }

@@ -195,6 +195,7 @@ impl WalkCache {
 
     /// Translates the address for an access of a vCPU with these registers, in this mode, as [`crate::walk_for`] does, and
     /// keeps the answer. Where satp asks for no translation nothing is kept.
+    #[inline(always)]
     #[tactic(auto, unfolding(crate::specs::Walk::walked))]
     pub fn cached_for(
         &mut self,
