@@ -32,6 +32,7 @@ const ADDI16SP: u16 = 0x6101;
 const BIT_12: u16 = 0x1000;
 
 /// C.ADDI16SP and C.LUI.
+#[inline(always)]
 fn decode_upper(h: u16) -> Option<Inst>
     requires { bit_and h FORM ≡ 0x6001 }
     ensures { result ≡ decode16_of h }
@@ -57,6 +58,7 @@ fn decode_upper(h: u16) -> Option<Inst>
 }
 
 /// The arithmetic on the registers 8 to 15.
+#[inline(always)]
 fn decode_arithmetic(h: u16) -> Option<Inst>
     requires { bit_and h FORM ≡ 0x8001 }
     ensures { result ≡ decode16_of h }
@@ -93,6 +95,7 @@ fn decode_arithmetic(h: u16) -> Option<Inst>
 }
 
 /// C.JR, C.MV, C.EBREAK, C.JALR and C.ADD.
+#[inline(always)]
 fn decode_move_or_jump(h: u16) -> Option<Inst>
     requires { bit_and h FORM ≡ 0x8002 }
     ensures { result ≡ decode16_of h }
@@ -134,6 +137,7 @@ fn decode_move_or_jump(h: u16) -> Option<Inst>
 
 /// The instruction of the one compressed row that `h` is of; None exactly where it is of no row, as 0x0000 and the
 /// floating-point forms.
+#[inline(always)]
 pub fn decode16(h: u16) -> Option<Inst>
     ensures { result ≡ decode16_of h }
 {
