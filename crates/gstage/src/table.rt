@@ -73,6 +73,8 @@ pub enum G {
 #[derive(Drop)]
 pub struct GTable {
     kind: GKind,
+    /// The pages of the list before the tables of level 0.
+    above: usize,
     entries: Vec<u64>,
     text: Spans,
     ram: Span,
@@ -265,6 +267,7 @@ impl GTable {
         let entries = entries_of(alloc, kind, text.as_slice(), &ram, view.0)?;
         Ok(GTable {
             kind,
+            above: pages_above(kind),
             entries,
             text,
             ram,
@@ -298,11 +301,12 @@ impl SecondStage for GTable {
 
     /// By the entry of level 0, which stands at the number of its page: this is on the way of every access.
     fn place(&self, at: Gpa, access: Access) -> Placed {
-        let above = TABLE * pages_above(self.kind);
-        if at.0 < RAM_START || at.0 - RAM_START >= RAM_MOST {
+        let first = TABLE * self.above;
+        // A place before RAM comes out far behind it.
+        let offset = at.0.wrapping_sub(RAM_START);
+        if offset >= RAM_MOST {
             return Placed::Outside;
         }
-        let page = (at.0 - RAM_START) / PAGE;
-        placed_by(self.entries[above + page as usize])
+        placed_by(self.entries[first + (offset / PAGE) as usize])
     }
 }

@@ -12,6 +12,8 @@ invariant_of-result c =
         size = c.in_ok-entries.ensures.size;
         maps = rw c.view.view_is at each;
       };
+      above = c.pages_above.ensures.value;
+      few = c.pages_above.ensures.most;
       laid = rw c.view.view_is at laid;
     }
 
