@@ -44,16 +44,16 @@ pub enum Source {
 pub struct Alu {
     pub source: Source,
     pub op: AluOp,
-    pub rd: u8,
     pub rs1: u8,
+    pub rd: u8,
 }
 
 /// A branch on two registers.
 #[derive(Clone, Copy, Drop)]
 pub struct Branch {
     pub op: BranchOp,
-    pub rs1: u8,
     pub rs2: u8,
+    pub rs1: u8,
     /// The distance, in bytes.
     pub imm: i64,
 }
@@ -63,8 +63,8 @@ pub struct Branch {
 pub struct Load {
     pub width: Width,
     pub sign: Sign,
-    pub rd: u8,
     pub rs1: u8,
+    pub rd: u8,
     /// The offset, in bytes.
     pub imm: i64,
 }
@@ -73,8 +73,8 @@ pub struct Load {
 #[derive(Clone, Copy, Drop)]
 pub struct Store {
     pub width: Width,
-    pub rs1: u8,
     pub rs2: u8,
+    pub rs1: u8,
     /// The offset, in bytes.
     pub imm: i64,
 }
@@ -93,8 +93,8 @@ pub struct CsrAccess {
 #[derive(Clone, Copy, Drop)]
 pub struct LoadReserved {
     pub width: Width,
-    pub rd: u8,
     pub rs1: u8,
+    pub rd: u8,
 }
 
 /// SC: a store of rs2 to the address in rs1, where it is reserved.
@@ -111,9 +111,9 @@ pub struct StoreConditional {
 pub struct Amo {
     pub op: AmoOp,
     pub width: Width,
-    pub rd: u8,
-    pub rs1: u8,
     pub rs2: u8,
+    pub rs1: u8,
+    pub rd: u8,
 }
 
 /// A register, and the number that goes to it, or the distance from here of the address that does.
@@ -134,16 +134,17 @@ pub struct Jump {
 /// A jump to so many bytes from the address in rs1. The address behind it goes to rd.
 #[derive(Clone, Copy, Drop)]
 pub struct JumpRegister {
-    pub rd: u8,
     pub rs1: u8,
+    pub rd: u8,
     /// The offset, in bytes.
     pub imm: i64,
 }
 
 /// The class of an instruction, with what distinguishes it there. Registers are numbers below 32.
 ///
-/// What has a number of 64 bits has it at the same place in every class, and no class is one of four bytes that move as
-/// one: so a step moves all of it without taking it apart. That is why two classes have their fields here.
+/// What has a number of 64 bits has it at the same place in every class, no class is one of four bytes that move as one,
+/// and no two registers stand beside each other in the order in which [`Inst`] has them, which would move as one: so a step
+/// moves all of it without taking it apart. That is why two classes have their fields here.
 #[derive(Clone, Copy, Drop)]
 pub enum Kind {
     Alu(Alu),
