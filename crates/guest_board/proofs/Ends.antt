@@ -36,7 +36,8 @@ abbrev IdleIfEnded : Site → Made → Type 0
 IdleIfEnded s m = (e : End) → m.left.end ≡ Some e → IsIdle s m
 
 settled-idle : (s : Site) (o : Outcome) (bits : ℕ) (nesting : Nesting) (x : Effect) → o.effect ≡ x → IsUntouchedUnless s o x → IdleIfEnded s (settled o bits nesting)
-settled-idle s o bits nesting (effect.Next wrote) is k e ended = absurd (cc (is, ended))
+settled-idle s o bits nesting effect.Next is k e ended = absurd (cc (is, ended))
+settled-idle s o bits nesting (effect.Wrote place) is k e ended = absurd (cc (is, ended))
 settled-idle s o bits nesting (effect.Trap cause tval) is k e ended = absurd (cc (is, ended))
 settled-idle s o bits nesting (effect.End x) is k e ended = rw is (record { vcpu = k.vcpu; ram = k.ram; devices = k.devices; put = k.put; wrote = refl; nesting = refl })
 

@@ -48,12 +48,14 @@ abbrev pub told : ℕ → ℕ → ℕ → ℕ
 told bits cause tval = if cause == ILLEGAL_INSTRUCTION then bits else tval
 
 abbrev pub vcpu_after : Effect → ℕ → Vcpu → Vcpu
-vcpu_after (effect.Next wrote) bits v = v
+vcpu_after effect.Next bits v = v
+vcpu_after (effect.Wrote place) bits v = v
 vcpu_after (effect.Trap cause tval) bits v = in_trap v cause (told bits cause tval)
 vcpu_after (effect.End e) bits v = v
 
 abbrev pub left_by : Effect → Nesting → StepOutcome
-left_by (effect.Next wrote) nesting = record { end = None; wrote = wrote; nesting = nesting }
+left_by effect.Next nesting = plain nesting
+left_by (effect.Wrote place) nesting = record { end = None; wrote = Some place; nesting = nesting }
 left_by (effect.Trap cause tval) nesting = plain Traps
 left_by (effect.End e) nesting = ends e
 

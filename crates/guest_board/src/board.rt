@@ -19,7 +19,7 @@ ghost use Rattle.guest_board.specs.Seen.{verdict_of, after_verdict, seen_by, tra
 use crate::open::{new_caches, start_ram, start_slots};
 use crate::rules::{Rules, rules_of};
 use crate::seen::{Seen, Verdict, Windows, judge};
-use crate::slot::{Slot, break_others, deepen, end_by};
+use crate::slot::{Slot, break_others, deepen, end_by, note_end};
 use crate::step::{CarriedOut, StepStart, begin, carry_out, place_fetched};
 use chain_log::chain::chain_of;
 use chain_log::entry::Trapped;
@@ -128,11 +128,13 @@ fn is_at_hook(rules: &Rules, start: &StepStart) -> bool
     }
 }
 
-/// The name that the hook reads.
-fn read_name(rules: &Rules, vcpu: &Vcpu, ram: &GuestRam) -> Option<Name>
-    ensures { result ≡ app_name_of ram.now vcpu.now.csr (get_reg vcpu.now.regs 11) rules.now.name_at }
+/// Puts down the name that the hook reads. So a step that is no hook step moves no name.
+#[cold]
+#[inline(never)]
+fn read_name(rules: &Rules, vcpu: &Vcpu, ram: &GuestRam, name: &mut Option<Name>)
+    ensures { name.new ≡ app_name_of ram.now vcpu.now.csr (get_reg vcpu.now.regs 11) rules.now.name_at }
 {
-    app_name(ram, &vcpu.csr, vcpu.regs.get(11), rules.name_at)
+    *name = app_name(ram, &vcpu.csr, vcpu.regs.get(11), rules.name_at);
 }
 
 /// A step that has begun: the number of the vCPU's slot, what the step begins with, and the clock.
@@ -171,11 +173,10 @@ fn carry_slot<S: SecondStage>(
     // Memory is laid out lawfully, so a step keeps its text; the call says so.
     let _laid = ram.text();
     let at_hook = is_at_hook(rules, &begun.start);
-    let met = if at_hook {
-        read_name(rules, &slot.vcpu, ram)
-    } else {
-        None
-    };
+    let mut met = None;
+    if at_hook {
+        read_name(rules, &slot.vcpu, ram, &mut met);
+    }
     let done = carry_out(
         begun.start,
         &mut slot.vcpu,
@@ -398,7 +399,10 @@ impl Board {
         );
         say(&mut self.console, done.put);
         push_vcpu(&mut self.schedule, i);
-        self.end = end_by(&self.rules, &self.slots, at, done.left.end);
+        note_end(
+            &mut self.end,
+            end_by(&self.rules, &self.slots, at, done.left.end),
+        );
     }
 
     /// One step of the full machine, which reads its instruction from the original memory. Kernel text and the size of

@@ -23,23 +23,14 @@ pub struct Slot {
     pub depth: u32,
 }
 
-fn kept_over(word: Option<Gpa>, place: Gpa) -> Option<Gpa>
-    ensures { result ≡ kept word place }
-{
-    match word {
-        None => None,
-        Some(word) => if word.0 == place.0 - place.0 % 8 {
-            None
-        } else {
-            Some(word)
-        },
-    }
-}
-
 fn release(slot: &mut Slot, place: Gpa)
     ensures { slot.new ≡ broken place slot.old }
 {
-    slot.vcpu.reserved = kept_over(slot.vcpu.reserved, place);
+    if let Some(word) = slot.vcpu.reserved {
+        if word.0 == place.0 - place.0 % 8 {
+            slot.vcpu.reserved = None;
+        }
+    }
 }
 
 fn release_all(slots: &mut [Slot], place: Gpa)
@@ -92,8 +83,21 @@ pub(crate) fn end_by(rules: &Rules, slots: &[Slot], at: usize, end: Option<End>)
     }
 }
 
-/// The depth of traps after a step that is no hook step.
-pub(crate) fn deepen(nesting: Nesting, depth: u32) -> u32
+/// Notes how a run that goes on ends now, if it does. Nothing is written where it goes on.
+#[inline(always)]
+pub(crate) fn note_end(noted: &mut Option<End>, end: Option<End>)
+    requires { noted.old ≡ None }
+    ensures { noted.new ≡ end }
+{
+    if let Some(end) = end {
+        *noted = Some(end);
+    }
+}
+
+/// The depth of traps after such a step that enters a trap or returns.
+#[cold]
+#[inline(never)]
+fn deepen_at_trap(nesting: Nesting, depth: u32) -> u32
     requires { depth < 2 ^ 32 - 1 }
     ensures { result ≡ deeper nesting depth }
 {
@@ -102,5 +106,16 @@ pub(crate) fn deepen(nesting: Nesting, depth: u32) -> u32
         Nesting::Interrupts => depth + 1,
         Nesting::Traps => if depth == 0 { 0 } else { depth + 1 },
         Nesting::Returns => depth.saturating_sub(1),
+    }
+}
+
+/// The depth of traps after a step that is no hook step.
+pub(crate) fn deepen(nesting: Nesting, depth: u32) -> u32
+    requires { depth < 2 ^ 32 - 1 }
+    ensures { result ≡ deeper nesting depth }
+{
+    match nesting {
+        Nesting::Stays => depth,
+        _ => deepen_at_trap(nesting, depth),
     }
 }

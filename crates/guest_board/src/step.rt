@@ -76,6 +76,8 @@ fn left_plain(nesting: Nesting) -> StepOutcome
     }
 }
 
+#[cold]
+#[inline(never)]
 #[tactic(auto, unfolding(crate::specs::Made::in_trap))]
 fn trap(v: &mut Vcpu, cause: u64, tval: u64)
     ensures { v.new ≡ in_trap v.old cause tval }
@@ -92,9 +94,10 @@ fn settle(v: &mut Vcpu, effect: Effect, bits: u32, nesting: Nesting) -> StepOutc
     ensures left { result ≡ left_by effect nesting }
 {
     match effect {
-        Effect::Next { wrote } => StepOutcome {
+        Effect::Next => left_plain(nesting),
+        Effect::Wrote(place) => StepOutcome {
             end: None,
-            wrote,
+            wrote: Some(place),
             nesting,
         },
         Effect::Trap { cause, tval } => {
@@ -167,54 +170,6 @@ fn act<S: SecondStage>(
     }
 }
 
-#[tactic(auto, unfolding(crate::specs::Step::made_by))]
-fn carry_out_fetch<S: SecondStage>(
-    got: Fetched,
-    v: &mut Vcpu,
-    ram: &mut GuestRam,
-    cache: &mut WalkCache,
-    feed: &mut Feed,
-    stage: &S,
-    clock: u64,
-) -> CarriedOut
-    requires stage { IsFor (S.text stage.now) (S.ram stage.now) ram.old }
-    requires stamps { CanStore ram.old }
-    requires fits { Fits ram.old cache.old }
-    ensures fits { Fits ram.new cache.new }
-    ensures others { KeepsFits ram.old ram.new }
-    ensures made { let made : Made = record { vcpu = v.new; ram = ram.new; devices = feed.new; put = result.put; left = result.left }
-        in let s : Site = record { vcpu = v.old; ram = ram.old; devices = feed.old }
-        in made ≡ made_by (Begun got) clock s }
-{
-    let code = match got {
-        Fetched::Short { half, .. } => Code {
-            inst: decode16(half),
-            bits: half as u32,
-            len: 2,
-        },
-        Fetched::Long { first, second, .. } => {
-            let bits = first as u32 + 65536 * second as u32;
-            Code {
-                inst: decode32(bits),
-                bits,
-                len: 4,
-            }
-        }
-        Fetched::Faults { cause, tval } => {
-            trap(v, cause, tval);
-            return quiet(left_plain(Nesting::Traps));
-        }
-        Fetched::Stops(stop) => {
-            return quiet(StepOutcome {
-                end: Some(End::Stopped(stop)),
-                wrote: None,
-                nesting: Nesting::Stays,
-            });
-        }
-    };
-    act(code, v, ram, cache, feed, stage, clock)
-}
-
 /// The rest of a step that begins so.
 #[tactic(auto, unfolding(crate::specs::Step::made_by))]
 pub(crate) fn carry_out<S: SecondStage>(
@@ -235,13 +190,37 @@ pub(crate) fn carry_out<S: SecondStage>(
         in let s : Site = record { vcpu = v.old; ram = ram.old; devices = feed.old }
         in made ≡ made_by start clock s }
 {
-    match start {
+    let code = match start {
+        StepStart::Fetches(Fetched::Short { half, .. }) => Code {
+            inst: decode16(half),
+            bits: half as u32,
+            len: 2,
+        },
+        StepStart::Fetches(Fetched::Long { first, second, .. }) => {
+            let bits = first as u32 + 65536 * second as u32;
+            Code {
+                inst: decode32(bits),
+                bits,
+                len: 4,
+            }
+        }
         StepStart::Interrupt(code) => {
             trap(v, INTERRUPT + code as u64, 0);
-            quiet(left_plain(Nesting::Interrupts))
+            return quiet(left_plain(Nesting::Interrupts));
         }
-        StepStart::Fetches(got) => carry_out_fetch(got, v, ram, cache, feed, stage, clock),
-    }
+        StepStart::Fetches(Fetched::Faults { cause, tval }) => {
+            trap(v, cause, tval);
+            return quiet(left_plain(Nesting::Traps));
+        }
+        StepStart::Fetches(Fetched::Stops(stop)) => {
+            return quiet(StepOutcome {
+                end: Some(End::Stopped(stop)),
+                wrote: None,
+                nesting: Nesting::Stays,
+            });
+        }
+    };
+    act(code, v, ram, cache, feed, stage, clock)
 }
 
 /// The interrupt that is due at this clock, if one is. The lines are asked for only where one may be taken.

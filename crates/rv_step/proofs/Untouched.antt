@@ -21,7 +21,7 @@ use Rattle.rv_kinds.specs.Kinds.{kind_of}
 use Rattle.rv_step.specs.declared.vcpu.Vcpu.{Vcpu}
 use Rattle.fc_numbers.specs.declared.machine.End.TheVariants.{Shutdown as Shut}
 use Rattle.rv_step.specs.declared.vcpu.Effect.{Effect}
-use Rattle.rv_step.specs.declared.vcpu.Effect.TheVariants.{Next, Trap, End as Ends}
+use Rattle.rv_step.specs.declared.vcpu.Effect.TheVariants.{Next, Wrote, Trap, End as Ends}
 use Rattle.rv_step.specs.Reach.{reached}
 use Rattle.rv_step.specs.Site.{Site, Outcome, moved_to, after, next, on_vcpu, on_memory, OnVcpu, OnMemory, OnDevices, of_vcpu, of_memory, of_devices}
 use Rattle.rv_step.specs.Classes.{did_alu, did_put, did_jump, did_branch, did_nothing, did_load, did_store, did_amo, did_reserve, did_conditional, did_csr, did_call, did_return, did_fence, load_from, store_to, amo_at, reserve_at, conditional_at, is_reserved, is_writing, csr_by, csr_value, call_in, return_in, fence_in}
@@ -51,12 +51,14 @@ choice_on_devices s false x y hx hy = hy
 
 -- what an access comes to that reaches no place
 came_to : (s : Site) (effect : Effect) → IsFair s (on_vcpu s.vcpu effect)
-came_to s (Next place) = tt
+came_to s Next = tt
+came_to s (Wrote place) = tt
 came_to s (Trap cause tval) = record { vcpu = refl; ram = refl; devices = refl; put = refl }
 came_to s (Ends end) = record { vcpu = refl; ram = refl; devices = refl; put = refl }
 
 came_to_on_memory : (s : Site) (effect : Effect) → IsFairOnMemory s (on_memory s.vcpu s.ram effect)
-came_to_on_memory s (Next place) = tt
+came_to_on_memory s Next = tt
+came_to_on_memory s (Wrote place) = tt
 came_to_on_memory s (Trap cause tval) = record { vcpu = refl; ram = refl; devices = refl; put = refl }
 came_to_on_memory s (Ends end) = record { vcpu = refl; ram = refl; devices = refl; put = refl }
 

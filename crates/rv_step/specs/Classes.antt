@@ -34,7 +34,7 @@ use Rattle.trap_unit.specs.Trap.{returned, return_mode}
 use Rattle.rv_step.specs.declared.causes.TheConstants.{ILLEGAL_INSTRUCTION, USER_CALL}
 use Rattle.rv_step.specs.declared.vcpu.Vcpu.{Vcpu}
 use Rattle.rv_step.specs.declared.vcpu.Effect.{Effect}
-use Rattle.rv_step.specs.declared.vcpu.Effect.TheVariants.{Next, Trap, End as Ends}
+use Rattle.rv_step.specs.declared.vcpu.Effect.TheVariants.{Wrote, Trap, End as Ends}
 use Rattle.rv_step.specs.Reach.{reached}
 use Rattle.rv_step.specs.Site.{Site, Outcome, OnVcpu, OnMemory, OnDevices, on_vcpu, on_memory, on_devices, of_vcpu, reg_of, source_value, num, moved_to, after, wrote, next, plus}
 
@@ -75,7 +75,7 @@ unfoldable pub did_load : Vcpu → Ram → ℕ → Load → OnVcpu
 did_load v ram len i = load_from v ram len i (reached v ram access.Load i.width (plus (reg_of v i.rs1) i.imm))
 
 abbrev pub store_to : Vcpu → Ram → ℕ → Store → Result ℕ Effect → OnMemory
-store_to v ram len i (Ok p) = on_memory (moved_to v (after v len)) (with_value ram p i.width (reg_of v i.rs2)) (Next (Some p))
+store_to v ram len i (Ok p) = on_memory (moved_to v (after v len)) (with_value ram p i.width (reg_of v i.rs2)) (Wrote p)
 store_to v ram len i (Err effect) = on_memory v ram effect
 
 unfoldable pub did_store : Vcpu → Ram → ℕ → Store → OnMemory
@@ -84,7 +84,7 @@ did_store v ram len i = store_to v ram len i (reached v ram access.Store i.width
 -- rd holds what stood in memory
 abbrev pub amo_at : Vcpu → Ram → ℕ → Amo → Result ℕ Effect → OnMemory
 amo_at v ram len i (Ok p) =
-    on_memory (wrote v len i.rd (extended i.width Signed (value ram p i.width))) (with_value ram p i.width (amo_of i.op i.width (value ram p i.width) (reg_of v i.rs2))) (Next (Some p))
+    on_memory (wrote v len i.rd (extended i.width Signed (value ram p i.width))) (with_value ram p i.width (amo_of i.op i.width (value ram p i.width) (reg_of v i.rs2))) (Wrote p)
 amo_at v ram len i (Err effect) = on_memory v ram effect
 
 -- an atomic operation is translated as a store
@@ -114,7 +114,7 @@ is_reserved (Some reserved) p = nat_eq reserved (doubleword_of p)
 abbrev pub conditional_at : Vcpu → Ram → ℕ → StoreConditional → Result ℕ Effect → OnMemory
 conditional_at v ram len i (Ok p) =
     if is_reserved v.reserved p
-    then on_memory (reserving (wrote v len i.rd 0) None) (with_value ram p i.width (reg_of v i.rs2)) (Next (Some p))
+    then on_memory (reserving (wrote v len i.rd 0) None) (with_value ram p i.width (reg_of v i.rs2)) (Wrote p)
     else on_memory (reserving (wrote v len i.rd 1) None) ram next
 conditional_at v ram len i (Err effect) = on_memory v ram effect
 

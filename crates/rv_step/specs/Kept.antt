@@ -4,7 +4,7 @@ use Rattle.std.specs.Prelude.{◌≡◌, ℕ, ◌+◌, ◌-◌, ◌≤◌, true,
 use Rattle.fc_numbers.specs.declared.places.TheConstants.{RAM_START}
 use Rattle.guest_ram.specs.Ram.{Ram, is_text, stamp_of}
 use Rattle.rv_step.specs.declared.vcpu.Effect.{Effect}
-use Rattle.rv_step.specs.declared.vcpu.Effect.TheVariants.{Next, Trap, End as Ends}
+use Rattle.rv_step.specs.declared.vcpu.Effect.TheVariants.{Next, Wrote, Trap, End as Ends}
 use Rattle.rv_step.specs.Site.{Site, Outcome}
 
 pub record KeepsText (old new : Ram) : Type 0 where
@@ -24,7 +24,8 @@ pub record IsUntouched (s : Site) (o : Outcome) : Type 0 where
 
 -- only where the run goes on was anything changed
 abbrev pub IsUntouchedUnless : Site → Outcome → Effect → Type 0
-IsUntouchedUnless s o (Next place) = Unit {0}
+IsUntouchedUnless s o Next = Unit {0}
+IsUntouchedUnless s o (Wrote place) = Unit {0}
 IsUntouchedUnless s o (Trap cause tval) = IsUntouched s o
 IsUntouchedUnless s o (Ends end) = IsUntouched s o
 

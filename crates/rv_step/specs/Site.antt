@@ -95,7 +95,7 @@ wrote v len rd x = record v { regs = set_reg v.regs (rd % 32) x; pc = after v le
 
 -- the run goes on, and nothing was written to memory
 abbrev pub next : Effect
-next = Next None
+next = Next
 
 abbrev pub resolve_walked : Ram → Walked → Resolved
 resolve_walked ram (At p) = if is_text ram p then place.Text p else if is_inside ram p then place.Ram p else place.AccessFault

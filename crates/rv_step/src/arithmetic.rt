@@ -19,7 +19,7 @@ pub(crate) fn do_alu(vcpu: &mut Vcpu, len: u8, inst: Alu) -> Effect
     let a = register(vcpu, inst.rs1);
     let b = source_value(vcpu, inst.source);
     write_back(vcpu, len, inst.rd, alu(inst.op, a, b));
-    Effect::Next { wrote: None }
+    Effect::Next
 }
 
 /// A number that is only put into a register: LUI and AUIPC.
@@ -28,7 +28,7 @@ pub(crate) fn do_put(vcpu: &mut Vcpu, len: u8, rd: u8, value: u64) -> Effect
     ensures { let made : OnVcpu = record { vcpu = vcpu.new; effect = result } in made ≡ did_put vcpu.old len rd value }
 {
     write_back(vcpu, len, rd, value);
-    Effect::Next { wrote: None }
+    Effect::Next
 }
 
 /// A jump that leaves the address after it in a register.
@@ -39,7 +39,7 @@ pub(crate) fn do_jump(vcpu: &mut Vcpu, len: u8, rd: u8, to: u64) -> Effect
     let link = following(vcpu, len);
     write_back(vcpu, len, rd, link);
     vcpu.pc = Va(to);
-    Effect::Next { wrote: None }
+    Effect::Next
 }
 
 /// A branch on two registers.
@@ -55,7 +55,7 @@ pub(crate) fn do_branch(vcpu: &mut Vcpu, len: u8, inst: Branch) -> Effect
         following(vcpu, len)
     };
     vcpu.pc = Va(to);
-    Effect::Next { wrote: None }
+    Effect::Next
 }
 
 /// An instruction that only goes on.
@@ -65,5 +65,5 @@ pub(crate) fn do_nothing(vcpu: &mut Vcpu, len: u8) -> Effect
 {
     let to = following(vcpu, len);
     vcpu.pc = Va(to);
-    Effect::Next { wrote: None }
+    Effect::Next
 }

@@ -99,7 +99,7 @@ pub(crate) fn do_load<S: SecondStage>(
         Ok(place) => {
             let x = number_at(ram, place, inst.width);
             write_back(vcpu, len, inst.rd, extend(inst.width, inst.sign, x));
-            Effect::Next { wrote: None }
+            Effect::Next
         }
         Err(effect) => effect,
     }
@@ -128,7 +128,7 @@ pub(crate) fn do_store<S: SecondStage>(
             put_at(ram, place, inst.width, register(vcpu, inst.rs2));
             let to = following(vcpu, len);
             vcpu.pc = Va(to);
-            Effect::Next { wrote: Some(place) }
+            Effect::Wrote(place)
         }
         Err(effect) => effect,
     }
@@ -158,7 +158,7 @@ pub(crate) fn do_amo<S: SecondStage>(
             let new = amo(inst.op, inst.width, old, register(vcpu, inst.rs2));
             put_at(ram, place, inst.width, new);
             write_back(vcpu, len, inst.rd, extend(inst.width, Sign::Signed, old));
-            Effect::Next { wrote: Some(place) }
+            Effect::Wrote(place)
         }
         Err(effect) => effect,
     }
@@ -201,7 +201,7 @@ pub(crate) fn do_reserve<S: SecondStage>(
             let x = number_at(ram, place, inst.width);
             write_back(vcpu, len, inst.rd, extend(inst.width, Sign::Signed, x));
             vcpu.reserved = Some(doubleword(place));
-            Effect::Next { wrote: None }
+            Effect::Next
         }
         Err(effect) => effect,
     }
@@ -231,11 +231,11 @@ pub(crate) fn do_conditional<S: SecondStage>(
                 put_at(ram, place, inst.width, register(vcpu, inst.rs2));
                 write_back(vcpu, len, inst.rd, 0);
                 vcpu.reserved = None;
-                Effect::Next { wrote: Some(place) }
+                Effect::Wrote(place)
             } else {
                 write_back(vcpu, len, inst.rd, 1);
                 vcpu.reserved = None;
-                Effect::Next { wrote: None }
+                Effect::Next
             }
         }
         Err(effect) => effect,

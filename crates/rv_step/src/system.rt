@@ -66,6 +66,7 @@ fn feed_soft(feed: &mut Feed, number: VcpuNo, csr: u16, value: u64)
 }
 
 /// An access to a control register.
+#[inline(always)]
 #[tactic(auto, unfolding(crate::specs::Classes::did_csr))]
 pub(crate) fn do_csr(
     vcpu: &mut Vcpu,
@@ -83,7 +84,7 @@ pub(crate) fn do_csr(
     };
     if !is_writing(inst.op, inst.source) {
         write_back(vcpu, len, inst.rd, old);
-        return Effect::Next { wrote: None };
+        return Effect::Next;
     }
     let value = change(inst.op, old, source_value(vcpu, inst.source));
     match vcpu.csr.write(inst.csr, vcpu.mode, value) {
@@ -91,12 +92,13 @@ pub(crate) fn do_csr(
         Ok(()) => {
             write_back(vcpu, len, inst.rd, old);
             feed_soft(feed, number, inst.csr, value);
-            Effect::Next { wrote: None }
+            Effect::Next
         }
     }
 }
 
 /// A call of supervisor mode, which the devices answer.
+#[inline(always)]
 fn supervisor_call(
     vcpu: &mut Vcpu,
     feed: &mut Feed,
@@ -113,18 +115,19 @@ fn supervisor_call(
     match feed.sbi(&mut vcpu.regs, number, clock) {
         Sbi::Done => {
             vcpu.pc = Va(to);
-            Effect::Next { wrote: None }
+            Effect::Next
         }
         Sbi::Put(byte) => {
             *put = Some(byte);
             vcpu.pc = Va(to);
-            Effect::Next { wrote: None }
+            Effect::Next
         }
         Sbi::Shutdown => Effect::End(End::Shutdown),
     }
 }
 
 /// ECALL.
+#[inline(always)]
 #[tactic(auto, unfolding(crate::specs::Classes::did_call))]
 pub(crate) fn do_call(
     vcpu: &mut Vcpu,
@@ -157,7 +160,7 @@ pub(crate) fn do_return(vcpu: &mut Vcpu) -> Effect
             let (mode, pc) = sret(&mut vcpu.csr);
             vcpu.mode = mode;
             vcpu.pc = pc;
-            Effect::Next { wrote: None }
+            Effect::Next
         }
     }
 }
@@ -172,7 +175,7 @@ pub(crate) fn do_fence(vcpu: &mut Vcpu, len: u8) -> Effect
         Mode::Vs => {
             let to = following(vcpu, len);
             vcpu.pc = Va(to);
-            Effect::Next { wrote: None }
+            Effect::Next
         }
     }
 }

@@ -90,7 +90,7 @@ fn executed(
 }
 
 fn next() -> Effect {
-    Effect::Next { wrote: None }
+    Effect::Next
 }
 
 fn trap(cause: u64, tval: u64) -> Effect {
@@ -102,9 +102,7 @@ fn stop(stop: Stop) -> Effect {
 }
 
 fn wrote(place: u64) -> Effect {
-    Effect::Next {
-        wrote: Some(Gpa(place)),
-    }
+    Effect::Wrote(Gpa(place))
 }
 
 #[test]

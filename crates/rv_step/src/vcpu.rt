@@ -29,8 +29,10 @@ pub struct Vcpu {
 /// What an instruction comes to.
 #[derive(Debug, Clone, Copy, PartialEq, Eq)]
 pub enum Effect {
-    /// The run goes on at the vCPU's pc. `wrote` is the place that a store, an AMO or a successful SC wrote.
-    Next { wrote: Option<Gpa> },
+    /// The run goes on at the vCPU's pc.
+    Next,
+    /// The same after a store, an AMO or a successful SC, which wrote at this place.
+    Wrote(Gpa),
     /// The instruction raises an exception, and the vCPU stands as it did before it. `tval` is what stval is to hold;
     /// for an illegal instruction it is 0 here, and whoever has its bits puts them there.
     Trap { cause: u64, tval: u64 },

@@ -23,7 +23,7 @@ invariant_of-self g c =
       feed = c.carry_at-done.new.feed;
       console = c.say.new.console;
       schedule = c.push_vcpu.new.schedule;
-      end = c.end_by-self-inside.result;
+      end = c.note_end.new.noted;
     }) =
     record {
       eight = omega (arith, many, c.self.invariant.eight);
