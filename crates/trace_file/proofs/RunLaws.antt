@@ -1,15 +1,16 @@
 -- The runs of a schedule and the schedule of runs.
-use Rattle.std.proofs.Common.{◌≡◌, ℕ, zero, suc, ◌+◌, ◌-◌, ◌^◌, ◌<◌, ◌≤◌, eqb, leb, ltb, ◌||◌, false, cond, List, [], ◌∷◌, ◌++◌, length, replicate, get_or, take, drop, Some, None, refl, sym, ap, subst, ◌∙◌, append_assoc, arith, add-zero}
+use Rattle.std.proofs.Common.{◌≡◌, ℕ, zero, suc, ◌+◌, ◌-◌, ◌^◌, ◌<◌, ◌≤◌, eqb, leb, ltb, ◌||◌, false, cond, List, [], ◌∷◌, ◌++◌, length, replicate, get_or, take, drop, Some, None, refl, sym, ap, subst, ◌∙◌, append_assoc, append-nil, flat_map, arith, add-zero}
 use Rattle.std.specs.List.{AllByRecursion}
 use Rattle.std.specs.Int.{w8, w32}
 use Rattle.std.proofs.lemmas.Bool.{cond_both, cond-true, cond-false, eqb-true, eqb-false, eq-eqb, ne_eqb, leb-false, lt-leb, ltb-false, le-ltb, or_parts, or_from}
 use Rattle.std.proofs.lemmas.List.{replicate-append-replicate, length-append, length-replicate, drop_more, drop_all, take_all}
+use Rattle.std.proofs.lemmas.List.Concat.{flat_map-append}
 use Rattle.trace_file.specs.declared.fault.TraceFault.TheVariants.{BadRun, TooLarge}
 use Rattle.trace_file.specs.declared.runs.Run.{Run}
 use Rattle.trace_file.specs.declared.runs.Before.{Before}
 use Rattle.trace_file.specs.Form.{number, both, seen, counted_items}
 use Rattle.trace_file.proofs.IsForm.{IsForm}
-use Rattle.trace_file.specs.Runs.{run, runs_from, runs_of, schedule_of, at_first, after_run, is_again, run_fault, run_form, runs_form}
+use Rattle.trace_file.specs.Runs.{run, runs_from, runs_of, schedule_of, at_first, after_run, is_again, run_fault, run_form, runs_form, run_text}
 use Rattle.trace_file.proofs.Forms.{BothFit, both_form, checked_form, seen_form, AllFit, CountedFit, counted_form}
 use Rattle.trace_file.proofs.Numbers.{wide8, wide32, number_form}
 use Rattle.trace_file.proofs.NoFault.{none_if, none_from}
@@ -211,3 +212,71 @@ runs_split [] v h e = absurd (omega arith)
 runs_split (x ∷ xs) v h e =
     let n : suc (length xs) - 1 ≡ length xs = omega arith in
     ap (λ k. runs_from v 1 (take k xs)) n ∙ ap (λ vs. runs_from v 1 vs) (take_all (length xs) xs (omega arith)) ∙ ap (λ y. runs_from y 1 xs) e
+
+-- so many runs are behind, and the last is of this vCPU
+pub record AreCounted (total : List Run) (rest : List ℕ) (last count : ℕ) : Type 0 where
+  pub runs : List Run
+  pub steps : ℕ
+  pub behind : length runs + 1 ≡ count
+  pub told : runs ++ runs_from last steps rest ≡ total
+
+pub counted-same : (total : List Run) (rest : List ℕ) (last count i w : ℕ) → i < length rest → w ≡ get_or rest i w → last ≡ w
+    → AreCounted total (drop i rest) last count → AreCounted total (drop (i + 1) rest) last count
+counted-same total rest last count i w lt is same h = record {
+  runs = h.runs;
+  steps = h.steps + 1;
+  behind = h.behind;
+  told = runs-same h.runs last h.steps rest i w total lt is same h.told;
+}
+
+pub counted-other : (total : List Run) (rest : List ℕ) (last count i w : ℕ) → i < length rest → w ≡ get_or rest i w → (last ≡ w → ⊥)
+    → AreCounted total (drop i rest) last count → AreCounted total (drop (i + 1) rest) w (count + 1)
+counted-other total rest last count i w lt is other h =
+    let more : length (h.runs ++ run last h.steps ∷ []) ≡ length h.runs + 1 = length-append h.runs (run last h.steps ∷ []) in
+    record {
+      runs = h.runs ++ run last h.steps ∷ [];
+      steps = 1;
+      behind = ap (λ n. n + 1) (more ∙ h.behind);
+      told = runs-other h.runs last h.steps rest i w total lt is other h.told;
+    }
+
+pub counted-end : (total : List Run) (rest : List ℕ) (last count i : ℕ) → length rest ≤ i → AreCounted total (drop i rest) last count → count ≡ length total
+counted-end total rest last count i le h =
+    let all : h.runs ++ run last h.steps ∷ [] ≡ total = runs-end h.runs last h.steps rest i total le h.told in
+    let more : length (h.runs ++ run last h.steps ∷ []) ≡ length h.runs + 1 = length-append h.runs (run last h.steps ∷ []) in
+    sym h.behind ∙ sym more ∙ ap length all
+
+-- the runs behind are written, and the last is of this vCPU and so many steps
+pub record AreWritten (total : List Run) (start out : List ℕ) (rest : List ℕ) (last steps : ℕ) : Type 0 where
+  pub runs : List Run
+  pub written : out ≡ start ++ flat_map run_text runs
+  pub told : runs ++ runs_from last steps rest ≡ total
+
+-- one more run
+written-more : (start out next : List ℕ) (runs : List Run) (r : Run) → out ≡ start ++ flat_map run_text runs → next ≡ out ++ run_text r → next ≡ start ++ flat_map run_text (runs ++ r ∷ [])
+written-more start out next runs r written is =
+    let one : flat_map run_text (r ∷ []) ≡ run_text r = append-nil (run_text r) in
+    is ∙ ap (λ x. x ++ run_text r) written ∙ append_assoc start (flat_map run_text runs) (run_text r)
+    ∙ ap (λ x. start ++ x) (sym (flat_map-append run_text runs (r ∷ []) ∙ ap (λ x. flat_map run_text runs ++ x) one))
+
+pub written-same : (total : List Run) (start out : List ℕ) (rest : List ℕ) (last steps i w : ℕ) → i < length rest → w ≡ get_or rest i w → last ≡ w
+    → AreWritten total start out (drop i rest) last steps → AreWritten total start out (drop (i + 1) rest) last (steps + 1)
+written-same total start out rest last steps i w lt is same h = record {
+  runs = h.runs;
+  written = h.written;
+  told = runs-same h.runs last steps rest i w total lt is same h.told;
+}
+
+pub written-other : (total : List Run) (start out next : List ℕ) (rest : List ℕ) (last steps i w : ℕ) → i < length rest → w ≡ get_or rest i w → (last ≡ w → ⊥)
+    → next ≡ out ++ run_text (run last steps) → AreWritten total start out (drop i rest) last steps → AreWritten total start next (drop (i + 1) rest) w 1
+written-other total start out next rest last steps i w lt is other more h = record {
+  runs = h.runs ++ run last steps ∷ [];
+  written = written-more start out next h.runs (run last steps) h.written more;
+  told = runs-other h.runs last steps rest i w total lt is other h.told;
+}
+
+pub written-end : (total : List Run) (start out next : List ℕ) (rest : List ℕ) (last steps i : ℕ) → length rest ≤ i
+    → next ≡ out ++ run_text (run last steps) → AreWritten total start out (drop i rest) last steps → next ≡ start ++ flat_map run_text total
+written-end total start out next rest last steps i le more h =
+    written-more start out next h.runs (run last steps) h.written more
+    ∙ ap (λ runs. start ++ flat_map run_text runs) (runs-end h.runs last steps rest i total le h.told)

@@ -18,12 +18,37 @@ use fc_numbers::memory::NoMemory;
 use fc_numbers::places::{Gpa, GroupNo, VcpuNo, ViewNo};
 use std::alloc::{AllocError, Global};
 
-/// The runs of a schedule that begins with a step of vCPU `first`.
-fn runs_behind(alloc: Global, first: u8, rest: &[VcpuNo]) -> Result<Vec<Run>, AllocError>
+/// How many runs a schedule has that begins with a step of vCPU `first`.
+fn count_runs(first: u8, rest: &[VcpuNo]) -> u32
     requires { length rest.now < 2 ^ 31 }
-    ensures { IfOk result (λ runs. runs.items ≡ runs_from first 1 rest.now) }
+    ensures { result ≡ length (runs_from first 1 rest.now) }
 {
-    let mut runs = Vec::new(alloc);
+    let mut last = first;
+    let mut runs = 1;
+    'rest: for vcpu in rest {
+        let next = vcpu.0;
+        if last != next {
+            last = next;
+            runs += 1;
+        }
+    }
+    runs
+}
+
+#[tactic(auto, unfolding(crate::specs::Runs::run_form))]
+fn put_run(out: &mut Vec<u8>, run: &Run) -> Result<(), AllocError>
+    ensures { OnOk result (out.new.items ≡ out.old.items ++ run_text run.now) }
+{
+    let [a, b, c, d] = run.steps.to_le_bytes();
+    out.extend_from_slice(&[run.vcpu, a, b, c, d])?;
+    Ok(())
+}
+
+/// Writes the runs of a schedule that begins with a step of vCPU `first`.
+fn put_runs(out: &mut Vec<u8>, first: u8, rest: &[VcpuNo]) -> Result<(), AllocError>
+    requires { length rest.now < 2 ^ 31 }
+    ensures { OnOk result (out.new.items ≡ out.old.items ++ flat_map run_text (runs_from first 1 rest.now)) }
+{
     let mut last = Run {
         vcpu: first,
         steps: 1,
@@ -33,44 +58,14 @@ fn runs_behind(alloc: Global, first: u8, rest: &[VcpuNo]) -> Result<Vec<Run>, Al
         if last.vcpu == next {
             last.steps += 1;
         } else {
-            runs.push(last)?;
+            put_run(out, &last)?;
             last = Run {
                 vcpu: next,
                 steps: 1,
             };
         }
     }
-    runs.push(last)?;
-    Ok(runs)
-}
-
-/// The runs of a schedule.
-#[tactic(auto, using(crate::proofs::RunLaws::runs_split))]
-fn runs_of(alloc: Global, schedule: &[VcpuNo]) -> Result<Vec<Run>, AllocError>
-    requires { length schedule.now < 2 ^ 31 }
-    ensures { IfOk result (λ runs. runs.items ≡ runs_of schedule.now) }
-{
-    let [first, rest @ ..] = schedule else {
-        return Ok(Vec::new(alloc));
-    };
-    runs_behind(alloc, first.0, rest)
-}
-
-#[tactic(auto, unfolding(crate::specs::Runs::run_form))]
-fn put_run(out: &mut Vec<u8>, run: &Run) -> Result<(), AllocError>
-    ensures { OnOk result (out.new.items ≡ out.old.items ++ run_text run.now) }
-{
-    out.extend_from_slice(&run.vcpu.to_le_bytes())?;
-    out.extend_from_slice(&run.steps.to_le_bytes())?;
-    Ok(())
-}
-
-fn put_runs(out: &mut Vec<u8>, runs: &[Run]) -> Result<(), AllocError>
-    ensures { OnOk result (out.new.items ≡ out.old.items ++ flat_map run_text runs.now) }
-{
-    'runs: for one in runs {
-        put_run(out, one)?;
-    }
+    put_run(out, &last)?;
     Ok(())
 }
 
@@ -208,13 +203,16 @@ fn end_byte(end: End) -> u8
 }
 
 /// Writes the runs of a schedule behind their number.
-fn put_schedule(alloc: Global, out: &mut Vec<u8>, schedule: &[VcpuNo]) -> Result<(), AllocError>
+#[tactic(auto, using(crate::proofs::RunLaws::runs_split))]
+fn put_schedule(out: &mut Vec<u8>, schedule: &[VcpuNo]) -> Result<(), AllocError>
     requires { length schedule.now < 2 ^ 31 }
     ensures { OnOk result (out.new.items ≡ out.old.items ++ (to_le_bytes w32 (length (runs_of schedule.now)) ++ flat_map run_text (runs_of schedule.now))) }
 {
-    let runs = runs_of(alloc, schedule)?;
-    put_u32(out, runs.len() as u32)?;
-    put_runs(out, &runs)?;
+    let [first, rest @ ..] = schedule else {
+        return put_u32(out, 0);
+    };
+    put_u32(out, count_runs(first.0, rest))?;
+    put_runs(out, first.0, rest)?;
     Ok(())
 }
 
@@ -243,7 +241,7 @@ fn text(alloc: Global, t: &Trace) -> Result<Vec<u8>, AllocError>
     ensures { IfOk result (λ v. v.items ≡ text_of_trace (told_of_trace t.now)) }
 {
     let mut out = start(alloc, t.vcpus)?;
-    put_schedule(alloc, &mut out, &t.schedule)?;
+    put_schedule(&mut out, &t.schedule)?;
     put_log(&mut out, &t.entries)?;
     put_byte(&mut out, end_byte(t.end))?;
     put_states(&mut out, &t.states)?;
