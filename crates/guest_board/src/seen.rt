@@ -20,7 +20,7 @@ use fc_numbers::window::{LINE, Window};
 pub struct Windows {
     /// The view.
     pub view: ViewNo,
-    /// Copies of lines of the view's pages, the oldest first.
+    /// Copies of lines of the view's pages, the newest first.
     pub held: ArrayVec<Window, 4>,
     /// The places whose zeros are the guest's own, if it has any.
     pub cleared: Option<Span>,
@@ -106,6 +106,7 @@ fn window_at(held: &[Window], line: u32) -> Option<&Window>
     held.iter().find(|window| window.line == line)
 }
 
+#[inline(always)]
 fn read_window(text: &[Span], seen: &Windows, got: Fetched, place: Gpa) -> Verdict
     requires ranges { AreRangesFrom RAM_START text.now }
     requires few { text_size text.now ≤ TEXT_MOST }
@@ -130,6 +131,7 @@ fn read_window(text: &[Span], seen: &Windows, got: Fetched, place: Gpa) -> Verdi
 }
 
 /// What a vCPU does whose next step begins so.
+#[inline(always)]
 pub(crate) fn judge(text: &[Span], seen: &Windows, start: StepStart) -> Verdict
     requires ranges { AreRangesFrom RAM_START text.now }
     requires few { text_size text.now ≤ TEXT_MOST }

@@ -1,6 +1,6 @@
 -- With one vCPU, a run goes on until it has an end: where an event is none, the run has ended.
-use Rattle.std.proofs.Common.{◌≡◌, ◌≢◌, ℕ, zero, suc, ◌+◌, ◌<◌, ◌≤◌, true, false, Bool, List, [], ◌∷◌, length, refl, sym, ap, subst, ◌∙◌, arith, Option, Some, None}
-use Rattle.std.specs.Prelude.{◌&&◌, is_none, IsSome, nat_lt, if◌then◌else◌}
+use Rattle.std.proofs.Common.{◌≡◌, ℕ, zero, suc, ◌<◌, ◌≤◌, true, false, Bool, List, [], ◌∷◌, length, refl, sym, ap, subst, ◌∙◌, arith, Option, Some, None}
+use Rattle.std.specs.Prelude.{◌&&◌, is_none, IsSome, nat_lt}
 use Rattle.std.proofs.lemmas.Bool.Decides.{nat_tests}
 use Rattle.std.proofs.lemmas.List.FromFn.{get_or-map-range_with_len}
 use mathlib.Core.Logic.{dite}
@@ -11,9 +11,9 @@ use Rattle.guest_board.specs.declared.slot.Slot.{Slot}
 use Rattle.guest_board.specs.Board.{Seat, State, made_of, may, next_start, no_slot, run_from, step_of, stepped_by}
 use Rattle.guest_board.specs.First.{first_slot, first_slots, first_state}
 use Rattle.guest_board.proofs.Idle.{idle_runs_have_ended}
-use Rattle.run_evidence.specs.Config.{Config, IsConfig, IsLawfulSchedule, full, rules_in}
+use Rattle.run_evidence.specs.Config.{Config, IsConfig, full, rules_in}
 use Rattle.run_evidence.proofs.OneVcpu.{full-vcpus}
-use Rattle.run_evidence.proofs.Steps.{may-slot, step-is, stepped-slots}
+use Rattle.run_evidence.proofs.Steps.{step-is, stepped-slots}
 use Rattle.vcpu_core.specs.declared.lane.Went.TheVariants.{Over}
 use Rattle.vcpu_core.specs.First.{first_world}
 use Rattle.vcpu_core.specs.World.{go_all, went_of}

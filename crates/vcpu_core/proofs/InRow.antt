@@ -51,7 +51,7 @@ pub may-goes : (w : World) (i : ℕ) → may w.board.rules w.board.state i ≡ t
 may-goes w i m over = let no : may w.board.rules w.board.state i ≡ false = over-may w i over in let x : true ≡ false = sym m ∙ no in absurd (cc)
 
 -- the event of a lane that does not run is no step
-went-rest : (w : World) (i : ℕ) (l : Lane) (phase : Phase) → phase ≢ Running → went_in w i l phase ≡ Erased
+pub went-rest : (w : World) (i : ℕ) (l : Lane) (phase : Phase) → phase ≢ Running → went_in w i l phase ≡ Erased
 unfolding went_in
 went-rest w i l Running other = absurd (other refl)
 went-rest w i l (Wants n) other = refl
@@ -124,6 +124,20 @@ pub row-one : (w : World) (i n : ℕ) → went_of w i ≡ Erased → 1 ≤ n →
 unfolding row_of
 row-one w i zero e some = absurd (omega (arith, some))
 row-one w i (suc n) e some = rw e refl
+
+-- a row of at most one event
+pub go-stuck : (w : World) (i : ℕ) → may w.board.rules w.board.state i ≡ false → go_of w i ≡ w
+unfolding go_of
+go-stuck w i m = rw m refl
+
+row-single-by : (w : World) (i : ℕ) (went : Went) → went_of w i ≡ went → go_all w (row_by went i []) ≡ go_of w i
+row-single-by w i Over e = sym (go-stuck w i (over-may w i e))
+row-single-by w i Stepped e = refl
+row-single-by w i Erased e = refl
+
+pub row-single : (w : World) (i : ℕ) → go_all w (row_of w i 1) ≡ go_of w i
+unfolding row_of
+row-single w i = row-single-by w i (went_of w i) refl
 
 -- where the vCPU may not step the row is empty
 pub row-none : (w : World) (i n : ℕ) → may w.board.rules w.board.state i ≡ false → go_all w (row_of w i n) ≡ w

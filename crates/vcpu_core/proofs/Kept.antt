@@ -1,22 +1,19 @@
 -- What every event keeps: the board is the full kernel's run, the logs are evidence, the lanes are truthful.
-use Rattle.std.proofs.Common.{◌≡◌, ◌≢◌, ℕ, zero, suc, ◌+◌, ◌<◌, ◌≤◌, true, false, Bool, List, [], ◌∷◌, ◌++◌, length, refl, sym, ap, subst, ◌∙◌, arith, Some, None, length-append, append_assoc, append-nil, replicate}
-use Rattle.std.specs.Prelude.{◌==◌, ◌||◌, slice_index, slice_index_or, slice_set, if◌then◌else◌}
-use Rattle.std.proofs.lemmas.Grind.{common_steps}
-use Rattle.function_table.specs.Groups.{Groups, group_at}
+use Rattle.std.proofs.Common.{◌≡◌, ◌≢◌, ℕ, zero, suc, ◌+◌, ◌<◌, true, false, Bool, List, [], ◌∷◌, ◌++◌, length, refl, sym, ap, subst, ◌∙◌, arith, append_assoc, append-nil, replicate}
+use Rattle.std.specs.Prelude.{◌||◌, slice_set, if◌then◌else◌}
 use Rattle.chain_log.specs.declared.entry.LogEntry.{LogEntry}
 use Rattle.chain_log.specs.declared.entry.Trapped.{Trapped as Trapping}
 use Rattle.guest_ram.specs.Ram.{IsLaid}
 use Rattle.recovery.specs.declared.Looked.{Looked as Looking}
-use Rattle.view_file.specs.declared.views.Views.{Views}
 use Rattle.view_file.specs.Named.{view_named}
 use Rattle.view_store.specs.declared.view.Patched.{Patched}
 use Rattle.view_store.specs.declared.view.Patched.TheVariants.{Recovered, WasPresent}
-use Rattle.view_store.specs.Paged.{PagedView, is_logged, is_present, logged, patched}
+use Rattle.view_store.specs.Paged.{PagedView, is_present, patched}
 use Rattle.guest_board.specs.declared.seen.Verdict.{Verdict}
 use Rattle.guest_board.specs.declared.seen.Verdict.TheVariants.{Idle, Needs, Zeroes, Goes}
 use Rattle.guest_board.specs.Board.{Seat, may, name_of}
 use Rattle.guest_board.specs.Seen.{after_verdict, verdict_of}
-use Rattle.run_evidence.specs.Config.{Config, IsConfig, IsLawfulSchedule, full, image_groups, rules_in}
+use Rattle.run_evidence.specs.Config.{Config, IsConfig, IsLawfulSchedule, image_groups}
 use Rattle.run_evidence.specs.Evidence.{AllJustified, AreJustified, IsAllowed, log_in}
 use Rattle.run_evidence.specs.Growing.{Begins, IsAllowedFrom, board_of, paged_at, logs_of}
 use Rattle.run_evidence.specs.Sound.{IsSoundView}
@@ -28,9 +25,9 @@ use Rattle.vcpu_core.specs.declared.lane.Phase.TheVariants.{Running, Wants, Trap
 use Rattle.vcpu_core.specs.declared.lane.Went.TheVariants.{Over}
 use Rattle.vcpu_core.specs.Lanes.{after_fill, after_look, after_mend, after_turn, seated, went_by}
 use Rattle.vcpu_core.specs.Truthful.{IsTruthful}
-use Rattle.vcpu_core.specs.Turns.{AfterTurns, board_after, lane_after, turns_from, turns_of}
+use Rattle.vcpu_core.specs.Turns.{turns_of}
 use Rattle.vcpu_core.specs.Rows.{AreOfOthers, IsMended, IsNewEntry, IsPatched}
-use Rattle.vcpu_core.specs.World.{World, IsReady, IsLaneReady, erased, go_all, go_of, gone, kept_if, lane_of, paged_in, verdict_in, view_of, went_in, went_of, windows_of, with_lane}
+use Rattle.vcpu_core.specs.World.{World, IsReady, IsLaneReady, erased, go_all, go_of, gone, kept_if, lane_of, paged_in, verdict_in, went_in, went_of, windows_of, with_lane}
 use Rattle.vcpu_core.proofs.Mended.{fill_keeps, look_keeps, mend_keeps}
 use Rattle.vcpu_core.proofs.Ready.{gone-ready, set-lane, set-paged}
 use Rattle.vcpu_core.proofs.Run.{full-texted}

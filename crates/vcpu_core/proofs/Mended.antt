@@ -1,47 +1,39 @@
 -- What a fill, a lookup and a mend keep.
-use Rattle.std.proofs.Common.{◌≡◌, ℕ, ◌+◌, ◌<◌, true, false, Bool, List, [], ◌∷◌, ◌++◌, length, refl, sym, ap, subst, ◌∙◌, arith, Option, Some, None}
-use Rattle.std.specs.Prelude.{◌==◌, ◌||◌, drop, nat_lt, slice_index_or, if◌then◌else◌}
+use Rattle.std.proofs.Common.{◌≡◌, ℕ, zero, suc, ◌+◌, ◌<◌, true, false, Bool, List, [], ◌∷◌, ◌++◌, take, refl, sym, ap, subst, ◌∙◌, arith, Option}
+use Rattle.std.specs.Prelude.{◌||◌, slice_index_or, if◌then◌else◌}
 use Rattle.std.proofs.lemmas.Grind.{common_steps}
 use Rattle.std.proofs.lemmas.Bool.Decides.{nat_tests}
 use Rattle.fc_numbers.specs.declared.places.Span.{Span}
 use Rattle.fc_numbers.specs.declared.window.Window.{Window}
-use Rattle.function_table.specs.Groups.{Groups, group_at, groups_count, in_groups_text, range_of}
+use Rattle.function_table.specs.Groups.{Groups, group_at, groups_count, range_of}
 use Rattle.function_table.proofs.GroupLemmas.{group-below}
 use Rattle.chain_log.specs.declared.entry.LogEntry.{LogEntry}
 use Rattle.recovery.specs.declared.Looked.{Looked as Looking}
 use Rattle.view_file.specs.Base.{base_of}
 use Rattle.view_store.specs.declared.view.Patched.{Patched}
 use Rattle.view_store.specs.declared.view.Patched.TheVariants.{Recovered, WasPresent}
-use Rattle.view_store.specs.Paged.{PagedView, is_logged, is_present, logged, patched, window_of}
+use Rattle.view_store.specs.Paged.{PagedView, is_logged, is_present, logged, window_of}
 use Rattle.guest_board.specs.declared.seen.Windows.{Windows}
-use Rattle.run_evidence.specs.Config.{Config, IsConfig, image_groups, full, is_base, view_in}
-use Rattle.run_evidence.specs.Evidence.{IsJustified, log_in}
+use Rattle.run_evidence.specs.Config.{Config, image_groups, full, is_base, view_in}
+use Rattle.run_evidence.specs.Evidence.{log_in}
 use Rattle.run_evidence.specs.Growing.{paged_at}
 use Rattle.vcpu_core.specs.declared.lane.Lane.{Lane}
 use Rattle.vcpu_core.specs.declared.lane.Phase.{Phase}
 use Rattle.vcpu_core.specs.declared.lane.Phase.TheVariants.{Running, Wants, Trapped, Looked}
-use Rattle.vcpu_core.specs.Lanes.{IsLooked, IsTrapped, IsWanting, after_mend, fill_row, windows_with_line, look_row, mend_answer, mend_row, mend_view, mended, with_newest}
-use Rattle.vcpu_core.specs.Placed.{IsPlacedPhase}
-use Rattle.vcpu_core.specs.Truthful.{AllTaken, AreTruthful, IsClearedBy, IsKeptTrap, IsOfView, IsTaken, IsTruePhase, IsTruthful}
-use Rattle.vcpu_core.specs.Rows.{FillKeeps, IsMended, IsNewEntry, IsPatched, LookKeeps, MendKeeps}
+use Rattle.vcpu_core.specs.Lanes.{IsLooked, IsTrapped, IsWanting, after_mend, fill_row, windows_with_line, look_row, mend_answer, mend_row, mend_view, with_newest}
+use Rattle.vcpu_core.specs.Truthful.{AllTaken, AreTruthful, IsKeptTrap, IsOfView, IsTaken, IsTruePhase, IsTruthful}
+use Rattle.vcpu_core.specs.Rows.{FillKeeps, IsMended, LookKeeps, MendKeeps}
 use Rattle.vcpu_core.proofs.Truth.{begins-itself}
 
 -- one more window at the end
-taken-append : (c : Config) (v : ℕ) (log : List LogEntry) (cleared : Option Span) (ws : List Window) (w : Window) → AllTaken c v log cleared ws → IsTaken c v log cleared w → AllTaken c v log cleared (ws ++ w ∷ [])
-taken-append c v log cleared [] w all new = (new, tt)
-taken-append c v log cleared (x ∷ xs) w all new = (all.0, taken-append c v log cleared xs w all.1 new)
-
-taken-drop : (c : Config) (v : ℕ) (log : List LogEntry) (cleared : Option Span) (ws : List Window) → AllTaken c v log cleared ws → AllTaken c v log cleared (drop 1 ws)
-taken-drop c v log cleared [] all = tt
-taken-drop c v log cleared (x ∷ xs) all = all.1
+taken-take : (c : Config) (v : ℕ) (log : List LogEntry) (cleared : Option Span) (n : ℕ) (ws : List Window) → AllTaken c v log cleared ws → AllTaken c v log cleared (take n ws)
+taken-take c v log cleared zero ws all = tt
+taken-take c v log cleared (suc n) [] all = tt
+taken-take c v log cleared (suc n) (x ∷ xs) all = (all.0, taken-take c v log cleared n xs all.1)
 
 pub taken-newest : (c : Config) (v : ℕ) (log : List LogEntry) (cleared : Option Span) (ws : List Window) (w : Window) → AllTaken c v log cleared ws → IsTaken c v log cleared w
     → AllTaken c v log cleared (with_newest ws w)
-taken-newest c v log cleared ws w all new =
-    elim (nat_lt (length ws) 4) as (λ b. AllTaken c v log cleared (if b then ws ++ w ∷ [] else drop 1 ws ++ w ∷ [])) [
-      | true ↦ taken-append c v log cleared ws w all new
-      | false ↦ taken-append c v log cleared (drop 1 ws) w (taken-drop c v log cleared ws all) new
-    ]
+taken-newest c v log cleared ws w all new = (new, taken-take c v log cleared 3 ws all)
 
 window-line : (p : PagedView) (n : ℕ) → n ≡ (window_of p n).line
 unfolding window_of

@@ -1,7 +1,6 @@
 -- An event keeps the parts together.
-use Rattle.std.proofs.Common.{◌≡◌, ◌≢◌, ℕ, zero, suc, ◌+◌, ◌*◌, ◌/◌, ◌<◌, ◌≤◌, true, false, Bool, List, [], ◌∷◌, length, refl, sym, ap, subst, ◌∙◌, arith, Option, Some, None, length-set}
-use Rattle.std.specs.Prelude.{◌==◌, slice_index_or, slice_set, if◌then◌else◌}
-use Rattle.std.proofs.lemmas.Bool.Decides.{nat_tests}
+use Rattle.std.proofs.Common.{◌≡◌, ◌≢◌, ℕ, zero, ◌+◌, ◌*◌, ◌<◌, true, false, Bool, List, [], length, refl, sym, ap, subst, ◌∙◌, arith, Option, Some, None, length-set}
+use Rattle.std.specs.Prelude.{slice_index_or, slice_set, if◌then◌else◌}
 use Rattle.std.proofs.lemmas.List.{get_or-set_other, get_or-set_same}
 use Rattle.std.proofs.lemmas.List.Quantifiers.{position-Some}
 use mathlib.Core.Logic.{dite}
@@ -18,7 +17,6 @@ use Rattle.rv_step.specs.Kept.{KeepsText}
 use Rattle.view_file.specs.declared.views.Views.{Views}
 use Rattle.view_file.specs.Named.{view_named}
 use Rattle.view_store.specs.Paged.{PagedView, is_present, logged, patched}
-use Rattle.guest_board.specs.declared.seen.Windows.{Windows}
 use Rattle.guest_board.specs.declared.seen.Verdict.{Verdict}
 use Rattle.guest_board.specs.declared.seen.Verdict.TheVariants.{Idle, Needs, Zeroes, Goes}
 use Rattle.guest_board.specs.Step.{place_of}

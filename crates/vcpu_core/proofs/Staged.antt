@@ -1,8 +1,7 @@
 -- The second-stage tables of the views, built one after another and kept by events.
-use Rattle.std.proofs.Common.{◌≡◌, ℕ, zero, suc, ◌+◌, ◌*◌, ◌<◌, ◌≤◌, List, [], ◌∷◌, ◌++◌, length, refl, sym, ap, ◌∙◌, arith, length-append}
+use Rattle.std.proofs.Common.{ℕ, zero, suc, ◌+◌, ◌<◌, List, [], ◌∷◌, ◌++◌, length, refl, sym, ◌∙◌, arith, length-append}
 use Rattle.std.specs.Prelude.{slice_index_or}
 use Rattle.fc_numbers.specs.declared.places.Span.{Span}
-use Rattle.fc_numbers.specs.declared.places.TheConstants.{PAGE}
 use Rattle.guest_ram.specs.Ram.{Ram, IsLaid}
 use Rattle.gstage.specs.Map.{AreSpans}
 use Rattle.gstage.specs.Stage.{IsFor}

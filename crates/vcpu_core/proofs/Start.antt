@@ -1,5 +1,5 @@
 -- The view machine before any event, and so after any.
-use Rattle.std.proofs.Common.{◌≡◌, ℕ, ◌+◌, ◌<◌, List, [], ◌∷◌, ◌++◌, length, refl, sym, ap, subst, ◌∙◌, arith}
+use Rattle.std.proofs.Common.{◌≡◌, ℕ, ◌+◌, ◌<◌, List, [], ◌++◌, length, refl, sym, ap, subst, ◌∙◌, arith}
 use Rattle.std.specs.Prelude.{slice_index_or}
 use Rattle.std.proofs.lemmas.List.FromFn.{get_or-map-range_with_len, length-map-range_with_len}
 use Rattle.function_table.proofs.GroupLemmas.{groups-good}
@@ -13,9 +13,9 @@ use Rattle.run_evidence.specs.Growing.{board_of, views_count, logs_of}
 use Rattle.run_evidence.specs.Sound.{IsSoundView}
 use Rattle.run_evidence.proofs.OneVcpu.{full-vcpus}
 use Rattle.vcpu_core.specs.First.{first_lane, first_lanes, first_paged, first_paged_views, first_world}
-use Rattle.vcpu_core.specs.Sound.{HasTruthfulLane, HasTruthfulLanes, IsSound}
+use Rattle.vcpu_core.specs.Sound.{HasTruthfulLanes, IsSound}
 use Rattle.vcpu_core.specs.Truthful.{IsTruthful}
-use Rattle.vcpu_core.specs.World.{World, IsReady, blank_lane, blank_paged, erased, go_all, lane_of, paged_in}
+use Rattle.vcpu_core.specs.World.{IsReady, blank_lane, blank_paged, erased, go_all, lane_of, paged_in}
 use Rattle.vcpu_core.proofs.Kept.{IsKept, go_all-kept, go_all-schedule}
 use Rattle.vcpu_core.proofs.Ready.{named-below}
 use Rattle.vcpu_core.proofs.Run.{full-texted}

@@ -1,21 +1,19 @@
 -- What a lane keeps when other vCPUs step and when logs grow.
-use Rattle.std.proofs.Common.{◌≡◌, ◌≢◌, ℕ, ◌+◌, ◌<◌, ◌≤◌, true, List, [], ◌∷◌, ◌++◌, length, refl, sym, ap, subst, ◌∙◌, arith, Some, length-append}
-use Rattle.chain_log.specs.declared.entry.LogEntry.{LogEntry}
+use Rattle.std.proofs.Common.{◌≡◌, ℕ, ◌+◌, ◌<◌, List, [], ◌∷◌, ◌++◌, refl, sym, ap, subst, ◌∙◌, arith, length-append}
 use Rattle.function_table.proofs.GroupLemmas.{group-below}
 use Rattle.function_table.specs.Groups.{group_at, groups_count}
 use Rattle.view_file.specs.Named.{view_named}
 use Rattle.guest_board.specs.declared.rules.Rules.{Rules}
 use Rattle.guest_board.specs.Board.{State, name_of, next_start, run_from, step_of}
-use Rattle.run_evidence.specs.Config.{Config, full, full_at, image_groups, rules_in, view_in}
+use Rattle.run_evidence.specs.Config.{Config, full, image_groups, rules_in, view_in}
 use Rattle.run_evidence.specs.Evidence.{log_in}
-use Rattle.run_evidence.specs.Growing.{Begins}
 use Rattle.run_evidence.proofs.Growing.{full_at-front, runs_append}
 use Rattle.run_evidence.proofs.Steps.{other-name, step-is}
 use Rattle.vcpu_core.specs.declared.lane.Lane.{Lane}
 use Rattle.vcpu_core.specs.declared.lane.Phase.{Phase}
 use Rattle.vcpu_core.specs.declared.lane.Phase.TheVariants.{Running, Wants, Trapped, Looked}
 use Rattle.vcpu_core.specs.Placed.{IsPlacedPhase}
-use Rattle.vcpu_core.specs.Truthful.{IsKeptTrap, IsOfView, IsTrapOf, IsTruePhase, IsTruthful}
+use Rattle.vcpu_core.specs.Truthful.{IsKeptTrap, IsOfView, IsTrapOf, IsTruePhase}
 use Rattle.vcpu_core.specs.Rows.{AreOfOthers, TruthfulLanesStay, TruthfulLanesArePlaced}
 use Rattle.vcpu_core.proofs.Truth.{truthful-longer}
 

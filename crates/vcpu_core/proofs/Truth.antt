@@ -1,7 +1,7 @@
 -- What the windows of a lane are, and that a fetch by truthful windows is the full kernel's fetch.
 use Rattle.std.proofs.Common.{◌≡◌, ◌≢◌, ℕ, ◌+◌, ◌-◌, ◌*◌, ◌/◌, ◌%◌, ◌<◌, ◌≤◌, true, false, Bool, cond, List, [], ◌∷◌, ◌++◌, length, refl, sym, ap, subst, ◌∙◌, arith, Option, Some, None, append_assoc}
 use Rattle.std.specs.Prelude.{◌==◌, ◌||◌, slice_index, slice_index_or, nat_le, nat_lt, if◌then◌else◌}
-use Rattle.std.specs.List.{find, list_any}
+use Rattle.std.specs.List.{find}
 use Rattle.std.proofs.lemmas.Grind.{common_steps}
 use Rattle.std.proofs.lemmas.Bool.Decides.{nat_tests}
 use Rattle.fc_numbers.specs.declared.places.Span.{Span}
@@ -11,7 +11,7 @@ use Rattle.fc_numbers.specs.Spans.{AreRangesFrom, IsTextBelow, end_in, holds, in
 use Rattle.fc_numbers.proofs.TextLaws.{end_near, offset_below, offset_near, offset_page, place_inside, place_near, place_offset, places_above}
 use Rattle.guest_input.specs.Accepted.{IsAscendingFrom}
 use Rattle.guest_input.specs.Text.{bytes_of}
-use Rattle.function_table.specs.Groups.{Groups, group_in, group_at, groups_count, range_of, half_of, IsRangeOf, IsGroups}
+use Rattle.function_table.specs.Groups.{Groups, group_in, group_at, range_of, half_of, IsRangeOf, IsGroups}
 use Rattle.function_table.proofs.GroupLemmas.{groups-good, joined, range_is}
 use Rattle.chain_log.specs.declared.entry.LogEntry.{LogEntry}
 use Rattle.guest_ram.specs.Ram.{Ram, is_text}
@@ -27,7 +27,7 @@ use Rattle.guest_board.specs.Seen.{half_in_line, line_no, is_cleared, window_at}
 use Rattle.guest_board.proofs.Places.{HalvesAre, IsBehind}
 use Rattle.run_evidence.specs.Config.{Config, IsConfig, image_groups}
 use Rattle.run_evidence.specs.Growing.{Begins, paged_at}
-use Rattle.vcpu_core.specs.Truthful.{AllTaken, AreTruthful, IsClearedBy, IsRangeOfPresent, IsTaken}
+use Rattle.vcpu_core.specs.Truthful.{AllTaken, AreTruthful, IsClearedBy, IsTaken}
 use Rattle.vcpu_core.proofs.Verdicts.{IsRead, first_in, second_in}
 
 -- the number of the halfword of text at a place

@@ -1,21 +1,15 @@
 -- What a turn keeps: its steps are the full kernel's, each fetch is allowed, and the lane is truthful after it.
-use Rattle.std.proofs.Common.{◌≡◌, ◌≢◌, ℕ, zero, suc, ◌+◌, ◌*◌, ◌/◌, ◌<◌, ◌≤◌, true, false, Bool, List, [], ◌∷◌, ◌++◌, length, refl, sym, ap, subst, ◌∙◌, arith, Option, Some, None, ◌⊎◌, inl, inr, append_assoc, append-nil, length-append, replicate}
-use Rattle.std.specs.Prelude.{◌==◌, ◌||◌, slice_index_or, slice_set, if◌then◌else◌}
+use Rattle.std.proofs.Common.{◌≡◌, ℕ, zero, suc, ◌+◌, ◌*◌, ◌<◌, true, false, Bool, List, [], ◌∷◌, ◌++◌, length, refl, sym, ap, subst, ◌∙◌, arith, Some, None, inl, inr, append_assoc, append-nil, replicate}
+use Rattle.std.specs.Prelude.{◌==◌, ◌||◌, slice_set, if◌then◌else◌}
 use Rattle.std.specs.List.{list_any}
 use Rattle.std.proofs.lemmas.Bool.Decides.{nat_tests}
-use Rattle.std.proofs.lemmas.Grind.{common_steps}
-use Rattle.fc_numbers.specs.declared.places.Span.{Span}
 use Rattle.fc_numbers.specs.declared.places.TheConstants.{RAM_START}
 use Rattle.fc_numbers.specs.Spans.{in_text, offset_in, text_size}
 use Rattle.fc_numbers.proofs.TextLaws.{offset_below}
-use Rattle.guest_input.specs.Text.{bytes_of}
-use Rattle.function_table.specs.Groups.{Groups, IsGroups, group_at, group_in}
+use Rattle.function_table.specs.Groups.{Groups, group_at, group_in}
 use Rattle.function_table.proofs.GroupLemmas.{groups-good}
 use Rattle.chain_log.specs.declared.entry.LogEntry.{LogEntry}
-use Rattle.chain_log.specs.declared.entry.Trapped.{Trapped as Trap}
-use Rattle.guest_ram.specs.Ram.{is_text}
 use Rattle.view_file.specs.declared.views.Views.{Views}
-use Rattle.view_file.specs.Named.{view_named}
 use Rattle.view_store.specs.Paged.{PagedView, is_present}
 use Rattle.guest_board.specs.declared.step.StepStart.{StepStart}
 use Rattle.guest_board.specs.declared.step.StepStart.TheVariants.{Fetches}
@@ -24,27 +18,26 @@ use Rattle.guest_board.specs.declared.seen.Verdict.{Verdict}
 use Rattle.guest_board.specs.declared.seen.Verdict.TheVariants.{Idle, Needs, Zeroes, Goes}
 use Rattle.guest_board.specs.Fetch.{with_halves}
 use Rattle.guest_board.specs.Step.{place_of}
-use Rattle.guest_board.specs.Board.{Seat, State, may, moved, name_of, next_of, next_start, step_of, stepped_by}
-use Rattle.guest_board.specs.Seen.{after_verdict, by_start, line_no, trapped_at, verdict_of}
+use Rattle.guest_board.specs.Board.{Seat, State, may, moved, next_of, next_start, step_of, stepped_by}
+use Rattle.guest_board.specs.Seen.{after_verdict, by_start, trapped_at}
 use Rattle.guest_board.proofs.Places.{HalvesAre}
 use Rattle.run_evidence.specs.Config.{Config, IsConfig, IsLawfulSchedule, full, full_at, image_groups, is_base, rules_in, view_in}
-use Rattle.run_evidence.specs.Evidence.{AllJustified, AreJustified, chain_in, is_group_open, log_in}
+use Rattle.run_evidence.specs.Evidence.{AreJustified, chain_in, is_group_open, log_in}
 use Rattle.run_evidence.specs.Growing.{IsAllowedFrom, board_of, paged_at}
 use Rattle.run_evidence.proofs.Growing.{allowed_from_grows, boards_move}
-use Rattle.run_evidence.proofs.Runs.{full_at-more, full_at-now, lawful-more}
+use Rattle.run_evidence.proofs.Runs.{full_at-now, lawful-more}
 use Rattle.run_evidence.proofs.Stable.{all_justified-more, is_logged-now}
-use Rattle.run_evidence.proofs.Steps.{StartIs, may-slot, next-is, next-text, start-is, step-is}
+use Rattle.run_evidence.proofs.Steps.{StartIs, next-is, next-text, start-is, step-is}
 use Rattle.vcpu_core.specs.declared.lane.Lane.{Lane}
-use Rattle.vcpu_core.specs.declared.lane.Phase.{Phase}
-use Rattle.vcpu_core.specs.declared.lane.Phase.TheVariants.{Running, Wants, Trapped, Looked}
+use Rattle.vcpu_core.specs.declared.lane.Phase.TheVariants.{Running, Wants, Trapped}
 use Rattle.vcpu_core.specs.declared.lane.Turned.{Turned}
-use Rattle.vcpu_core.specs.declared.lane.Then.TheVariants.{Limit, Need, Zero, Over}
+use Rattle.vcpu_core.specs.declared.lane.Then.TheVariants.{Limit}
 use Rattle.vcpu_core.specs.Lanes.{after_turn, blank_windows, in_phase, seated, went_by}
-use Rattle.vcpu_core.specs.Truthful.{AreTruthful, IsKeptTrap, IsOfView, IsTrapOf, IsTruePhase, IsTruthful}
-use Rattle.vcpu_core.specs.Turns.{AfterTurns, board_after, lane_after, turns_by, turns_from, turns_of, verdict_for, went_then, windows_for}
+use Rattle.vcpu_core.specs.Truthful.{AreTruthful, IsTrapOf, IsTruthful}
+use Rattle.vcpu_core.specs.Turns.{AfterTurns, board_after, lane_after, turns_by, turns_from, turns_of, verdict_for, windows_for}
 use Rattle.vcpu_core.specs.Rows.{AreAllowedSteps, TurnsKeep}
 use Rattle.vcpu_core.specs.World.{World, gone, went_in}
-use Rattle.vcpu_core.proofs.Run.{IsTextedRam, full-clock, full-texted}
+use Rattle.vcpu_core.proofs.Run.{full-clock, full-texted}
 use Rattle.vcpu_core.proofs.Truth.{IsOriginal, got-same, group-half, half_no, read-original}
 use Rattle.vcpu_core.proofs.Verdicts.{IsNeed, IsPlain, IsRead, IsZero, first_in, second_in, start-busy, start-goes, start-needs, start-zeroes, verdict-may, verdict-stuck}
 
@@ -276,31 +269,25 @@ turns_keep views limit b b' l l' answer exact c h logs ok same_views at lawful j
 abbrev ended : Verdict → Seat → Lane → AfterTurns
 ended v x y = turns_by v 0 x y (record { board = x; lane = y; answer = record { steps = 1; then = Limit } })
 
-ended-by : (v : Verdict) (x : Seat) (y : Lane) → ((ended v x y).board ≡ x) × ((ended v x y).lane ≡ y) × (went_then (ended v x y).answer.then ≡ went_by v)
-ended-by Idle x y = (refl, refl, refl)
-ended-by (Needs n) x y = (refl, refl, refl)
-ended-by (Zeroes p) x y = (refl, refl, refl)
-ended-by (Goes start) x y = (refl, refl, refl)
+ended-by : (v : Verdict) (x : Seat) (y : Lane) → ((ended v x y).board ≡ x) × ((ended v x y).lane ≡ y)
+ended-by Idle x y = (refl, refl)
+ended-by (Needs n) x y = (refl, refl)
+ended-by (Zeroes place) x y = (refl, refl)
+ended-by (Goes start) x y = (refl, refl)
 
-pub one-turn : (views : Views) (b : Seat) (l : Lane)
-    → ((turns_of views 1 b l).board ≡ board_after views b l) × ((turns_of views 1 b l).lane ≡ lane_after views b l) × (went_then (turns_of views 1 b l).answer.then ≡ went_by (verdict_for views b l))
+pub one-turn : (views : Views) (b : Seat) (l : Lane) → ((turns_of views 1 b l).board ≡ board_after views b l) × ((turns_of views 1 b l).lane ≡ lane_after views b l)
 unfolding turns_from
 one-turn views b l = ended-by (verdict_for views b l) (board_after views b l) (lane_after views b l)
 
--- the world after it
-pub event-running : (views : Views) (groups : Groups) (paged_views : List PagedView) (lanes : List Lane) (b b' : Seat) (l l' : Lane) (answer : Turned)
-    → turns_of views 1 b l ≡ record { board = b'; lane = l'; answer = answer }
+-- the world after the event of a lane that runs, and what it was
+pub event-running : (views : Views) (groups : Groups) (paged_views : List PagedView) (lanes : List Lane) (b b' : Seat) (l l' : Lane)
+    → b' ≡ board_after views b l → l' ≡ lane_after views b l
     → (let new : World = record { profile = views; groups = groups; board = b'; paged_views = paged_views; lanes = slice_set lanes l.vcpu l' } in new)
     ≡ gone (record { profile = views; groups = groups; board = b; paged_views = paged_views; lanes = lanes }) l.vcpu l Running
 unfolding gone
-event-running views groups paged_views lanes b b' l l' answer exact =
-    let board : b' ≡ board_after views b l = sym (ap (λ (a : AfterTurns). a.board) exact) ∙ (one-turn views b l).0 in
-    let lane : l' ≡ lane_after views b l = sym (ap (λ (a : AfterTurns). a.lane) exact) ∙ (one-turn views b l).1 in
-    λ x. record { profile = views; groups = groups; board = board x; paged_views = paged_views; lanes = slice_set lanes l.vcpu (lane x) }
+event-running views groups paged_views lanes b b' l l' board lane = λ x. record { profile = views; groups = groups; board = board x; paged_views = paged_views; lanes = slice_set lanes l.vcpu (lane x) }
 
-pub event-went : (views : Views) (groups : Groups) (paged_views : List PagedView) (lanes : List Lane) (b b' : Seat) (l l' : Lane) (answer : Turned)
-    → turns_of views 1 b l ≡ record { board = b'; lane = l'; answer = answer }
-    → went_then answer.then ≡ went_in (record { profile = views; groups = groups; board = b; paged_views = paged_views; lanes = lanes }) l.vcpu l Running
+pub event-went : (views : Views) (groups : Groups) (paged_views : List PagedView) (lanes : List Lane) (b : Seat) (l : Lane)
+    → went_by (verdict_for views b l) ≡ went_in (record { profile = views; groups = groups; board = b; paged_views = paged_views; lanes = lanes }) l.vcpu l Running
 unfolding went_in
-event-went views groups paged_views lanes b b' l l' answer exact =
-    sym (ap (λ (a : AfterTurns). went_then a.answer.then) exact) ∙ (one-turn views b l).2
+event-went views groups paged_views lanes b l = refl

@@ -17,7 +17,8 @@ use Rattle.vcpu_core.specs.declared.lane.Phase.TheVariants.{Running, Trapped}
 use Rattle.vcpu_core.specs.declared.lane.Then.{Then}
 use Rattle.vcpu_core.specs.declared.lane.Taken.TheVariants.{End, Step}
 use Rattle.vcpu_core.specs.declared.lane.Then.TheVariants.{Limit, Need, Over, Zero}
-use Rattle.vcpu_core.specs.Lanes.{after_turn, in_phase}
+use Rattle.vcpu_core.specs.declared.lane.Went.TheVariants.{Erased, Stepped}
+use Rattle.vcpu_core.specs.Lanes.{after_turn, in_phase, went_by}
 use Rattle.vcpu_core.specs.declared.lane.Turned.{Turned}
 use Rattle.vcpu_core.specs.Turns.{AfterTurns, IsPhaseAfter, board_after, lane_after, taken_by, turn_end_at, turns_by, turns_from, verdict_for, windows_for}
 use Rattle.vcpu_core.proofs.Verdicts.{start-busy, verdict-may, verdict-stuck}
@@ -180,3 +181,20 @@ phase-after views (suc k) made b l running =
 pub turned_phase : (views : Views) (limit : ℕ) (b b' : Seat) (l l' : Lane) (answer : Turned) → l.phase ≡ Running → turns_from views 0 limit b l ≡ record { board = b'; lane = l'; answer = answer }
     → IsPhaseAfter answer.then l'.phase
 turned_phase views limit b b' l l' answer running exact = subst (λ (a : AfterTurns). IsPhaseAfter a.answer.then a.lane.phase) exact (phase-after views limit 0 b l running)
+
+-- what one event of a vCPU that may step was
+pub busy : (views : Views) (b : Seat) (l : Lane) → may b.rules b.state l.vcpu ≡ true → verdict_for views b l ≡ Idle → ⊥
+busy views b l m idle =
+    start-busy b.state.ram.text (windows_for views b l) (next_start b.state l.vcpu) (sym (verdict-may b.rules b.state l.vcpu (windows_for views b l) m) ∙ idle)
+
+pub taken-steps : (rules : Rules) (v : Verdict) (hooked : Bool) → Step hooked ≡ taken_by rules v → Stepped ≡ went_by v
+taken-steps rules Idle hooked e = absurd (cc)
+taken-steps rules (Needs n) hooked e = absurd (cc)
+taken-steps rules (Zeroes p) hooked e = absurd (cc)
+taken-steps rules (Goes start) hooked e = refl
+
+pub taken-erases : (rules : Rules) (v : Verdict) (then : Then) → End then ≡ taken_by rules v → (v ≡ Idle → ⊥) → Erased ≡ went_by v
+taken-erases rules Idle then e busy = absurd (busy refl)
+taken-erases rules (Needs n) then e busy = refl
+taken-erases rules (Zeroes p) then e busy = refl
+taken-erases rules (Goes start) then e busy = absurd (cc)

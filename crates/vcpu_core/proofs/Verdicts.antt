@@ -1,6 +1,6 @@
 -- What a verdict says of the place about to be fetched, and of the step that it lets go.
 use Rattle.std.proofs.Common.{◌≡◌, ◌≢◌, ℕ, ◌+◌, List, true, false, refl, sym, ap, subst, ◌∙◌, arith, Option, Some, None, ◌⊎◌, inl, inr}
-use Rattle.std.specs.Prelude.{◌==◌, ◌&&◌, not, nat_eq, slice_index, if◌then◌else◌}
+use Rattle.std.specs.Prelude.{◌&&◌, not, nat_eq, slice_index, if◌then◌else◌}
 use Rattle.std.proofs.lemmas.Bool.Decides.{nat_tests}
 use Rattle.fc_numbers.specs.declared.places.Span.{Span}
 use Rattle.fc_numbers.specs.declared.window.Window.{Window}

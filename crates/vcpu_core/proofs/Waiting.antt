@@ -1,7 +1,6 @@
 -- Each event without a step leaves fewer of them before the next step of its vCPU, and there are never ten.
-use Rattle.std.proofs.Common.{◌≡◌, ◌≢◌, ℕ, ◌+◌, ◌<◌, ◌≤◌, true, false, Bool, List, [], ◌∷◌, ◌++◌, drop, length, refl, sym, ap, subst, ◌∙◌, arith, Option, Some, None}
-use Rattle.std.specs.Prelude.{◌==◌, ◌||◌, cond, nat_lt, slice_index_or, slice_set, if◌then◌else◌}
-use Rattle.std.proofs.lemmas.List.{length-map}
+use Rattle.std.proofs.Common.{◌≡◌, ◌≢◌, ℕ, zero, suc, ◌+◌, ◌<◌, ◌≤◌, true, false, Bool, List, [], ◌∷◌, take, length, refl, sym, ap, subst, ◌∙◌, arith, Option, Some, None}
+use Rattle.std.specs.Prelude.{◌==◌, ◌||◌, cond, slice_index_or, slice_set, if◌then◌else◌}
 use Rattle.std.proofs.lemmas.Grind.{common_steps}
 use Rattle.std.proofs.lemmas.Bool.Decides.{nat_tests}
 use Rattle.fc_numbers.specs.declared.places.Span.{Span}
@@ -39,35 +38,17 @@ or-true true b e = refl
 or-true false b e = e
 
 -- the lines of windows with one more
-lines-end : (held : List Window) (x : Window) → lines_held (held ++ x ∷ []) ≡ lines_held held ++ x.line ∷ []
-lines-end [] x = refl
-lines-end (w ∷ ws) x = ap (λ (lines : List ℕ). w.line ∷ lines) (lines-end ws x)
-
-lines-drop : (held : List Window) → lines_held (drop 1 held) ≡ drop 1 (lines_held held)
-lines-drop [] = refl
-lines-drop (w ∷ ws) = refl
+lines-take : (held : List Window) (n : ℕ) → lines_held (take n held) ≡ take n (lines_held held)
+lines-take held zero = refl
+lines-take [] (suc n) = refl
+lines-take (w ∷ ws) (suc n) = ap (λ (lines : List ℕ). w.line ∷ lines) (lines-take ws n)
 
 lines-newest : (held : List Window) (x : Window) → lines_held (with_newest held x) ≡ with_newest (lines_held held) x.line
-lines-newest held x =
-    let long : length (lines_held held) ≡ length held = length-map held (λ (w : Window). w.line) in
-    subst (λ n. lines_held (with_newest held x) ≡ (if nat_lt n 4 then lines_held held ++ x.line ∷ [] else drop 1 (lines_held held) ++ x.line ∷ [])) (sym long)
-    (elim (nat_lt (length held) 4) as (λ b. lines_held (if b then held ++ x ∷ [] else drop 1 held ++ x ∷ [])
-    ≡ (if b then lines_held held ++ x.line ∷ [] else drop 1 (lines_held held) ++ x.line ∷ [])) [
-      | true ↦ lines-end held x
-      | false ↦ lines-end (drop 1 held) x ∙ ap (λ (lines : List ℕ). lines ++ x.line ∷ []) (lines-drop held)
-    ])
+lines-newest held x = ap (λ (lines : List ℕ). x.line ∷ lines) (lines-take held 3)
 
 -- the newest is held
-last-line : (lines : List ℕ) (n : ℕ) → has_line (lines ++ n ∷ []) n ≡ true
-last-line [] n = rw (same-number n) refl
-last-line (m ∷ ms) n = or-true (m == n) (has_line (ms ++ n ∷ []) n) (last-line ms n)
-
 newest-line : (lines : List ℕ) (n : ℕ) → has_line (with_newest lines n) n ≡ true
-newest-line lines n =
-    elim (nat_lt (length lines) 4) as (λ b. has_line (if b then lines ++ n ∷ [] else drop 1 lines ++ n ∷ []) n ≡ true) [
-      | true ↦ last-line lines n
-      | false ↦ last-line (drop 1 lines) n
-    ]
+newest-line lines n = rw (same-number n) refl
 
 -- which lines are held, by the window that is found
 unheld-line : (line : ℕ) (held : List Window) → window_at line held ≡ None → has_line (lines_held held) line ≡ false

@@ -2,8 +2,7 @@
 -- The rule: a lane holds at most four windows of its view, of which a fifth replaces the oldest. A step keeps them, a
 -- mend drops them, and clears the range of the group that it restored or found present. Where the vCPU's view is
 -- another one, windows and cleared range are dropped.
-use Rattle.std.specs.Prelude.{ℕ, ◌==◌, nat_lt, if◌then◌else◌, Some, None, List, [], ◌∷◌, ◌++◌, drop, length}
-use Rattle.fc_numbers.specs.declared.window.Window.{Window}
+use Rattle.std.specs.Prelude.{ℕ, ◌==◌, if◌then◌else◌, Some, None, List, [], ◌∷◌, take}
 use Rattle.function_table.specs.Groups.{Groups, range_of}
 use Rattle.chain_log.specs.declared.entry.Trapped.{Trapped}
 use Rattle.recovery.specs.Recovery.{looked_of}
@@ -28,9 +27,9 @@ blank_windows v = record { view = v; held = record { items = [] }; cleared = Non
 abbrev pub seated : ℕ → Windows → Windows
 seated v w = if w.view == v then w else blank_windows v
 
--- one more at the end; of four the oldest goes
+-- one more in front, and the three newest of the others
 abbrev pub with_newest : {X : Type 0} → List X → X → List X
-with_newest held x = if nat_lt (length held) 4 then held ++ x ∷ [] else drop 1 held ++ x ∷ []
+with_newest held x = x ∷ take 3 held
 
 abbrev pub in_phase : Lane → Windows → Phase → Lane
 in_phase l w p = record { vcpu = l.vcpu; windows = w; phase = p }

@@ -19,8 +19,6 @@ use Rattle.vcpu_core.specs.declared.lane.Taken.{Taken}
 use Rattle.vcpu_core.specs.declared.lane.Taken.TheVariants.{End, Step}
 use Rattle.vcpu_core.specs.declared.lane.Then.{Then}
 use Rattle.vcpu_core.specs.declared.lane.Then.TheVariants.{Limit, Need, Zero, Over}
-use Rattle.vcpu_core.specs.declared.lane.Went.{Went}
-use Rattle.vcpu_core.specs.declared.lane.Went.TheVariants as went
 use Rattle.vcpu_core.specs.Lanes.{IsTrapped, IsWanting, after_turn, seated}
 
 -- the board, the lane, and what is answered
@@ -73,13 +71,6 @@ taken_by rules Idle = End Over
 taken_by rules (Needs n) = End Need
 taken_by rules (Zeroes place) = End Zero
 taken_by rules (Goes start) = Step (is_same_place (place_of start) rules.hook)
-
--- what the one event of a turn with limit 1 was
-abbrev pub went_then : Then → Went
-went_then Limit = went.Stepped
-went_then Need = went.Erased
-went_then Zero = went.Erased
-went_then Over = went.Over
 
 -- the lane's phase after a turn: a need and a zero set it
 abbrev pub IsPhaseAfter : Then → Phase → Type 0

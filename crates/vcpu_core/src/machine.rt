@@ -3,7 +3,8 @@
 ghost use Rattle.std.specs.Prelude.{◌≡◌, ◌≢◌, ◌≤◌, ◌<◌, ◌+◌, List, IfOk, length, slice_set, true, false};
 ghost use Rattle.guest_input.specs.Accepted.{IsImage, IsSetupFor};
 ghost use Rattle.guest_ram.specs.Ram.{IsLaid};
-ghost use Rattle.guest_board.specs.Board.{may};
+ghost use Rattle.guest_board.specs.Board.{Seat, may};
+ghost use Rattle.view_file.specs.declared.views.Views.{Views};
 ghost use Rattle.function_table.specs.Groups.{groups_of};
 ghost use Rattle.view_file.specs.Fits.{IsViewsFor};
 ghost use Rattle.vcpu_core.specs.declared.lane.Lane.{Lane};
@@ -12,13 +13,12 @@ ghost use Rattle.vcpu_core.specs.declared.lane.Phase.TheVariants.{Running};
 ghost use Rattle.vcpu_core.specs.First.{first_world};
 ghost use Rattle.vcpu_core.specs.Placed.{IsPlacedPhase};
 ghost use Rattle.vcpu_core.specs.Stages.{AreStagesFor};
-ghost use Rattle.vcpu_core.specs.Turns.{went_then};
 ghost use Rattle.vcpu_core.specs.Waits.{all_left, left_of};
 ghost use Rattle.vcpu_core.specs.World.{World, go_of, went_of, go_all, gone, went_in, row_of, IsReady, paged_in, lane_of};
 
-use crate::lane::{Lane, Phase, Then, Went};
+use crate::lane::{Lane, Phase, Went};
 use crate::open::{start_lanes, start_stages, start_views};
-use crate::rows::{fill, look_up, mend, turn};
+use crate::rows::{fill, look_up, mend, step_once, turn};
 use chain_log::entry::LogEntry;
 use fc_numbers::machine::End;
 use fc_numbers::memory::NoMemory;
@@ -58,19 +58,36 @@ impl<'a> Model for Core<'a> {
     ghost invariant = { IsWhole };
 }
 
-/// What the one event of a turn with limit 1 was.
-fn went_by(then: Then) -> Went
-    ensures { result ≡ went_then then }
+/// One event of a lane that does not run: a fill, a lookup or a mend.
+#[tactic(auto, unfolding(crate::specs::World::gone))]
+fn rest_event(table: &Table, views: &mut [View], lane: &mut Lane)
+    requires rests { lane.old.phase ≢ Phase.Running }
+    requires view { lane.old.windows.view < length views.old }
+    requires paged { (paged_in views.old lane.old.windows.view).number ≡ lane.old.windows.view }
+    requires groups { (paged_in views.old lane.old.windows.view).groups ≡ table.now }
+    requires placed { IsPlacedPhase table.now lane.old lane.old.phase }
+    ensures { (profile : Views) → (board : Seat) → (lanes : List Lane) →
+        (let old : World = record { profile = profile; groups = table.now; board = board; paged_views = views.old; lanes = lanes } in
+        let new : World = record { profile = profile; groups = table.now; board = board; paged_views = views.new; lanes = slice_set lanes lane.old.vcpu lane.new } in
+        new ≡ gone old lane.old.vcpu lane.old lane.old.phase) }
 {
-    match then {
-        Then::Limit => Went::Stepped,
-        Then::Need | Then::Zero => Went::Erased,
-        Then::Over => Went::Over,
+    match lane.phase {
+        Phase::Running => unreachable!(),
+        Phase::Wants(_) => {
+            let view = lane.windows.view.0 as usize;
+            fill(&views[view], lane);
+        }
+        Phase::Trapped(_) => look_up(table, lane),
+        Phase::Looked(_) => {
+            let view = lane.windows.view.0 as usize;
+            // Restored or found present: the event is the same.
+            let _ = mend(&mut views[view], table, lane);
+        }
     }
 }
 
-/// One event by the lane's phase.
-#[tactic(auto, unfolding(crate::specs::World::gone, crate::specs::World::went_in))]
+/// One event by the lane's phase, of a vCPU that may step.
+#[inline(always)]
 fn event(
     profile: &Views,
     table: &Table,
@@ -79,7 +96,7 @@ fn event(
     views: &mut [View],
     lane: &mut Lane,
 ) -> Went
-    requires number { lane.old.vcpu < length board.old.state.slots }
+    requires may { may board.old.rules board.old.state lane.old.vcpu ≡ true }
     requires view { lane.old.windows.view < length views.old }
     requires paged { (paged_in views.old lane.old.windows.view).number ≡ lane.old.windows.view }
     requires groups { (paged_in views.old lane.old.windows.view).groups ≡ table.now }
@@ -95,20 +112,9 @@ fn event(
     ensures stages { AreStagesFor board.new.state.ram (length profile.now.apps + 1) stages.now }
 {
     match lane.phase {
-        Phase::Running => went_by(turn(board, profile, stages, lane, 1).then),
-        Phase::Wants(_) => {
-            let view = lane.windows.view.0 as usize;
-            fill(&views[view], lane);
-            Went::Erased
-        }
-        Phase::Trapped(_) => {
-            look_up(table, lane);
-            Went::Erased
-        }
-        Phase::Looked(_) => {
-            let view = lane.windows.view.0 as usize;
-            // Restored or found present: the event is the same.
-            let _ = mend(&mut views[view], table, lane);
+        Phase::Running => step_once(board, profile, stages, lane),
+        _ => {
+            rest_event(table, views, lane);
             Went::Erased
         }
     }
@@ -186,6 +192,7 @@ impl<'a> Core<'a> {
     /// One event of vCPU i, by the phase of its lane: a step, a need, a trap, a fill, a lookup or a mend; `Over` exactly
     /// where the vCPU may not step, and then nothing changes. Of ten events of a vCPU, between which no other vCPU steps,
     /// at least one is a step. Each event but `Over` leaves less of the vCPU's run, and less of the run of all.
+    #[inline(always)]
     #[tactic(auto, using(crate::proofs::Waiting::go_left, crate::proofs::LeftOver::go_falls))]
     pub fn go(&mut self, i: VcpuNo) -> Went
         ensures after { self.new ≡ go_of self.old i }
@@ -201,6 +208,7 @@ impl<'a> Core<'a> {
     pub fn go_on(&mut self, i: VcpuNo, limit: u32) -> bool
         requires some { 1 ≤ limit }
         ensures after { self.new ≡ go_all self.old (row_of self.old i limit) }
+        ensures one { limit ≡ 1 → self.new ≡ go_of self.old i }
         ensures answer { result ≡ may self.old.board.rules self.old.board.state i }
         ensures falls { result ≡ true → all_left self.new < all_left self.old }
         ensures idle { result ≡ false → went_of self.new i ≡ Went.Over }
@@ -210,10 +218,7 @@ impl<'a> Core<'a> {
         }
         match self.lanes[i.0 as usize].phase {
             Phase::Running => self.make_turn(i, limit),
-            _ => {
-                // The lane's phase says what the event is.
-                let _ = self.make_event(i);
-            }
+            _ => self.make_rest(i),
         }
         true
     }
@@ -240,6 +245,21 @@ impl<'a> Core<'a> {
         );
     }
 
+    /// The event of vCPU i, whose lane does not run.
+    #[tactic(auto, unfolding(crate::specs::World::go_of))]
+    fn make_rest(&mut self, i: VcpuNo)
+        requires may { may self.old.board.rules self.old.board.state i ≡ true }
+        requires rests { (lane_of self.old i).phase ≢ Running }
+        ensures after { self.new ≡ go_of self.old i }
+        ensures ready { IsReady self.old }
+    {
+        let at = i.0 as usize;
+        // The call says that the memory is laid out.
+        let _laid = self.board.ram().text();
+        rest_event(self.table, &mut self.views, &mut self.lanes[at]);
+    }
+
+    #[inline(always)]
     #[tactic(auto, unfolding(crate::specs::World::go_of, crate::specs::World::went_of))]
     fn make_event(&mut self, i: VcpuNo) -> Went
         ensures after { self.new ≡ go_of self.old i }

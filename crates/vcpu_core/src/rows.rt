@@ -4,23 +4,27 @@
 //! logs that its board, its view and its lane are of. So one thread with a whole core, and many that take the board or a
 //! view in turn, use the same rows.
 
-ghost use Rattle.std.specs.Prelude.{◌≡◌, ◌≤◌, ◌<◌, ◌+◌, ◌-◌, ◌*◌, false, length};
+ghost use Rattle.std.specs.Prelude.{◌≡◌, ◌≤◌, ◌<◌, ◌+◌, ◌-◌, ◌*◌, false, true, length};
 ghost use Rattle.view_file.specs.Named.{view_named};
 ghost use Rattle.guest_board.specs.declared.seen.Windows.{Windows};
-ghost use Rattle.guest_board.specs.Board.{name_of};
+ghost use Rattle.gstage.specs.Stage.{IsFor};
+ghost use Rattle.rv_step.specs.Kept.{KeepsText};
+ghost use Rattle.guest_board.specs.Board.{may, name_of};
 ghost use Rattle.guest_board.specs.Seen.{trapped_at};
 ghost use Rattle.vcpu_core.specs.declared.lane.Phase.TheVariants.{Trapped as TrappedAt};
 ghost use Rattle.vcpu_core.specs.Stages.{AreStagesFor};
-ghost use Rattle.vcpu_core.specs.Lanes.{in_phase, IsLooked, IsTrapped, IsWanting, fill_row, look_row, mend_answer, mend_row, mend_view, seated, with_newest};
+ghost use Rattle.vcpu_core.specs.Lanes.{in_phase, IsLooked, IsTrapped, IsWanting, fill_row, look_row, mend_answer, mend_row, mend_view, seated, went_by, with_newest};
 ghost use Rattle.vcpu_core.specs.Placed.{IsPlacedPhase};
 ghost use Rattle.vcpu_core.specs.Rows.{FillKeeps, LookKeeps, MendKeeps, TurnsKeep};
 ghost use Rattle.vcpu_core.specs.Turns.{IsPhaseAfter, board_after, lane_after, taken_by, turns_of, verdict_for};
 
-use crate::lane::{Lane, Phase, Taken, Then, Turned};
+use crate::lane::{Lane, Phase, Taken, Then, Turned, Went};
 use arrayvec::ArrayVec;
+use fc_numbers::machine::Access;
 use fc_numbers::places::{Gpa, VcpuNo, ViewNo};
 use fc_numbers::window::Window;
 use function_table::table::Table;
+use gstage::stage::{Placed, SecondStage};
 use gstage::table::GTable;
 use guest_board::board::Board;
 use guest_board::seen::{Seen, Windows};
@@ -51,31 +55,27 @@ fn note_trap(board: &Board, lane: &mut Lane, place: Gpa)
     lane.phase = Phase::Trapped(trapped);
 }
 
-/// One event of a lane that runs, whose vCPU has this view. Each access of a step asks the table of the view where its
+/// One event of a lane that runs, whose vCPU has this view and may step. Each access of a step asks the stage where its
 /// place lies.
-fn take_step(
+fn take_step<S: SecondStage>(
     board: &mut Board,
     views: &Views,
-    stages: &[GTable],
+    stage: &S,
     view: ViewNo,
     lane: &mut Lane,
 ) -> Taken
-    requires number { lane.old.vcpu < length board.old.state.slots }
+    requires may { may board.old.rules board.old.state lane.old.vcpu ≡ true }
     requires phase { lane.old.phase ≡ Phase.Running }
     requires view { view ≡ view_named views.now (name_of board.old.state lane.old.vcpu) }
-    requires within { view ≤ length views.now.apps }
-    requires stages { AreStagesFor board.old.state.ram (length views.now.apps + 1) stages.now }
+    requires stage { IsFor (S.text stage.now) (S.ram stage.now) board.old.state.ram }
     ensures board { board.new ≡ board_after views.now board.old lane.old }
     ensures lane { lane.new ≡ lane_after views.now board.old lane.old }
     ensures answer { result ≡ taken_by board.old.rules (verdict_for views.now board.old lane.old) }
-    ensures stages { AreStagesFor board.new.state.ram (length views.now.apps + 1) stages.now }
+    ensures keeps { KeepsText board.old.state.ram board.new.state.ram }
 {
-    if !board.may(lane.vcpu) {
-        return Taken::End(Then::Over);
-    }
     seat(view, &mut lane.windows);
-    match board.step_ready(lane.vcpu, &lane.windows, &stages[view.0 as usize]) {
-        Seen::Over => Taken::End(Then::Over),
+    match board.step_ready(lane.vcpu, &lane.windows, stage) {
+        Seen::Over => unreachable!(),
         Seen::Stepped { hooked } => Taken::Step { hooked },
         Seen::Need(line) => {
             lane.phase = Phase::Wants(line);
@@ -88,6 +88,17 @@ fn take_step(
     }
 }
 
+/// The view of a vCPU by its name.
+#[cold]
+#[inline(never)]
+fn view_named(board: &Board, views: &Views, vcpu: VcpuNo) -> ViewNo
+    requires { vcpu < length board.now.state.slots }
+    ensures value { result ≡ view_named views.now (name_of board.now.state vcpu) }
+    ensures within { result ≤ length views.now.apps }
+{
+    views.choose(board.name_of(vcpu))
+}
+
 /// The view of a vCPU after a step: it is asked for anew only where the step fetched the hook's place.
 fn view_after(hooked: bool, view: ViewNo, board: &Board, views: &Views, vcpu: VcpuNo) -> ViewNo
     requires number { vcpu < length board.now.state.slots }
@@ -97,7 +108,7 @@ fn view_after(hooked: bool, view: ViewNo, board: &Board, views: &Views, vcpu: Vc
     ensures within { result ≤ length views.now.apps }
 {
     if hooked {
-        views.choose(board.name_of(vcpu))
+        view_named(board, views, vcpu)
     } else {
         view
     }
@@ -121,9 +132,15 @@ pub fn turn(
     ensures stages { AreStagesFor board.new.state.ram (length views.now.apps + 1) stages.now }
     ensures kept { TurnsKeep views.now board.old lane.old board.new lane.new result.steps }
 {
-    let mut view = views.choose(board.name_of(lane.vcpu));
+    let mut view = view_named(board, views, lane.vcpu);
     for steps in 0..limit {
-        match take_step(board, views, stages, view, lane) {
+        if !board.may(lane.vcpu) {
+            return Turned {
+                steps,
+                then: Then::Over,
+            };
+        }
+        match take_step(board, views, &stages[view.0 as usize], view, lane) {
             Taken::Step { hooked } => view = view_after(hooked, view, board, views, lane.vcpu),
             Taken::End(then) => return Turned { steps, then },
         }
@@ -134,14 +151,54 @@ pub fn turn(
     }
 }
 
-/// One more window; of four the oldest goes.
+/// The second stage of one event. The step is compiled for it apart from that of a turn, so that each has one caller and
+/// becomes part of it.
+#[derive(Drop)]
+struct EventStage<'a> {
+    table: &'a GTable,
+}
+
+impl<'a> SecondStage for EventStage<'a> {
+    ghost text = { λ s. s.table.now.text };
+
+    ghost ram = { λ s. s.table.now.ram };
+
+    #[inline(always)]
+    fn place(&self, at: Gpa, access: Access) -> Placed {
+        self.table.place(at, access)
+    }
+}
+
+/// One event of a lane that runs, whose vCPU may step.
+#[inline(always)]
+pub fn step_once(board: &mut Board, views: &Views, stages: &[GTable], lane: &mut Lane) -> Went
+    requires may { may board.old.rules board.old.state lane.old.vcpu ≡ true }
+    requires phase { lane.old.phase ≡ Phase.Running }
+    requires stages { AreStagesFor board.old.state.ram (length views.now.apps + 1) stages.now }
+    ensures board { board.new ≡ board_after views.now board.old lane.old }
+    ensures lane { lane.new ≡ lane_after views.now board.old lane.old }
+    ensures answer { result ≡ went_by (verdict_for views.now board.old lane.old) }
+    ensures stages { AreStagesFor board.new.state.ram (length views.now.apps + 1) stages.now }
+{
+    let view = views.choose(board.name_of(lane.vcpu));
+    let stage = EventStage {
+        table: &stages[view.0 as usize],
+    };
+    match take_step(board, views, &stage, view, lane) {
+        Taken::Step { .. } => Went::Stepped,
+        Taken::End(_) => Went::Erased,
+    }
+}
+
+/// How many windows a lane keeps beside a new one.
+const OTHERS: usize = 3;
+
+/// One more window, in front, where the next steps look first; of four the oldest goes.
 fn hold(held: &mut ArrayVec<Window, 4>, window: Window)
     ensures { held.new.items ≡ with_newest held.old.items window }
 {
-    if held.is_full() {
-        held.remove(0);
-    }
-    held.push(window);
+    held.truncate(OTHERS);
+    held.insert(0, window);
 }
 
 /// Takes the window of the line that the lane wants, of its view as it is.

@@ -95,6 +95,7 @@ pub struct Views {
     pub apps: Apps,
 }
 
+#[inline(never)]
 fn named(apps: &[App], name: &[u8]) -> Option<usize>
     ensures place { result ≡ position_of name.now apps.now }
     ensures within { IfSome result (λ at. at < length apps.now) }
@@ -147,6 +148,7 @@ fn mark(groups: &mut Vec<bool>, functions: &[Start], table: &Table)
 impl Views {
     /// The number of the view of this app name: that of the app of this name, from 1 on, or 0, the full view, where
     /// there is no name or no app of this name.
+    #[inline(always)]
     pub fn choose(&self, name: Option<&Name>) -> ViewNo
         ensures value { result ≡ view_named self.now (option_copied name.entry) }
         ensures within { result ≤ length self.now.apps }

@@ -1,7 +1,7 @@
 use Rattle.std.proofs.Common.{◌≡◌, ◌∙◌, ap, sym}
 use Rattle.vcpu_core.specs.declared.lane.Lane.{Lane}
 use Rattle.vcpu_core.specs.declared.lane.Phase.{Phase}
-use Rattle.vcpu_core.specs.declared.lane.Phase.TheVariants.{Running, Wants}
+use Rattle.vcpu_core.specs.declared.lane.Phase.TheVariants.{Running}
 use Rattle.vcpu_core.specs.Lanes.{after_fill, fill_row, with_newest}
 use Rattle.vcpu_core.proofs.Mended.{fill_keeps}
 use Rattle.vcpu_core.proofs.rows.fill.Goals as goal

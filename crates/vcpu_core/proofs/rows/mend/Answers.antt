@@ -1,7 +1,7 @@
-use Rattle.std.proofs.Common.{◌≡◌, ◌∙◌, ap, sym, Some, [], List}
+use Rattle.std.proofs.Common.{◌≡◌, ◌∙◌, ap, sym, Some, []}
 use Rattle.vcpu_core.specs.declared.lane.Lane.{Lane}
 use Rattle.vcpu_core.specs.declared.lane.Phase.{Phase}
-use Rattle.vcpu_core.specs.declared.lane.Phase.TheVariants.{Running, Looked}
+use Rattle.vcpu_core.specs.declared.lane.Phase.TheVariants.{Looked}
 use Rattle.vcpu_core.specs.Lanes.{after_mend, mend_answer, mend_row, mend_view}
 use Rattle.vcpu_core.proofs.Mended.{mend_keeps}
 use Rattle.vcpu_core.proofs.rows.mend.Goals as goal

@@ -1,11 +1,12 @@
-use Rattle.std.proofs.Common.{◌≡◌, ◌<◌, ap, sym, ◌∙◌, subst, length, arith}
-use Rattle.vcpu_core.specs.declared.lane.Then.TheVariants.{Limit}
+use Rattle.std.proofs.Common.{◌≡◌, ◌+◌, ap, sym, ◌∙◌, subst, length, arith}
+use Rattle.vcpu_core.specs.declared.lane.Then.TheVariants.{Limit, Over}
 use Rattle.view_file.specs.Named.{view_named}
 use Rattle.guest_board.specs.Board.{Seat, name_of}
 use Rattle.vcpu_core.specs.declared.lane.Lane.{Lane}
 use Rattle.vcpu_core.specs.Turns.{board_after, lane_after, verdict_for}
 use Rattle.vcpu_core.proofs.Turned.{turns_keep}
-use Rattle.vcpu_core.proofs.Turning.{IsRunningOn, loop-ended, loop-ends, loop-goes, name-stays, running-on, taken-ends, taken-goes, turned_phase}
+use Rattle.vcpu_core.proofs.Staged.{stages_kept}
+use Rattle.vcpu_core.proofs.Turning.{IsRunningOn, loop-ended, loop-ends, loop-goes, name-stays, running-on, stuck-board, stuck-ends, stuck-lane, taken-ends, taken-goes, turned_phase}
 use Rattle.vcpu_core.proofs.rows.turn.Goals as goal
 
 pub returns-in-End-clause-exact : goal.returns-in-End-clause-exact
@@ -34,7 +35,7 @@ loop-steps-preserved c =
       number = omega (arith, here.vcpu, here.slots, c.loop-steps.invariant.number);
       view = c.view_after-view.ensures.value;
       within = c.view_after-view.ensures.within;
-      stages = c.in-Step.ensures.stages;
+      stages = stages_kept c.loop-steps.board.state.ram c.take_step.new.board.state.ram (length c.args.views.now.apps + 1) c.args.stages.now c.in-Step.ensures.keeps c.loop-steps.invariant.stages;
     }
 
 pub returns-clause-exact : goal.returns-clause-exact
@@ -70,3 +71,14 @@ view_after-view-requires-clause-number c =
     let vcpu : c.take_step.new.lane.vcpu ≡ c.loop-steps.lane.vcpu = ap (λ (l : Lane). l.vcpu) c.in-Step.ensures.lane ∙ on.vcpu in
     let slots : length c.take_step.new.board.state.slots ≡ length c.loop-steps.board.state.slots = ap (λ (b : Seat). length b.state.slots) c.in-Step.ensures.board ∙ on.slots in
     omega (arith, vcpu, slots, c.loop-steps.invariant.number)
+
+pub returns-then-not-may-clause-exact : goal.returns-then-not-may-clause-exact
+returns-then-not-may-clause-exact c =
+    loop-ends c.args.views.now c.args.limit c.loop-steps.steps c.args.board.now c.loop-steps.board c.loop-steps.board c.args.lane.now c.loop-steps.lane c.loop-steps.lane
+    c.loop-steps.invariant.exact (stuck-board c.args.views.now c.loop-steps.board c.loop-steps.lane (sym c.if-not-may.ensures)) (stuck-lane c.args.views.now c.loop-steps.board c.loop-steps.lane (sym c.if-not-may.ensures))
+    Over c.loop-steps-test.true
+    (taken-ends c.loop-steps.board.rules (verdict_for c.args.views.now c.loop-steps.board c.loop-steps.lane) Over (stuck-ends c.args.views.now c.loop-steps.board c.loop-steps.lane (sym c.if-not-may.ensures)))
+
+pub returns-then-not-may-clause-kept : goal.returns-then-not-may-clause-kept
+returns-then-not-may-clause-kept c =
+    turns_keep c.args.views.now c.args.limit c.args.board.now c.loop-steps.board c.args.lane.now c.loop-steps.lane (record { steps = c.loop-steps.steps; then = Over }) (returns-then-not-may-clause-exact c)

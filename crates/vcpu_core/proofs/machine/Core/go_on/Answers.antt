@@ -7,14 +7,22 @@ use Rattle.vcpu_core.specs.declared.lane.Went.TheVariants.{Erased}
 use Rattle.vcpu_core.specs.Waits.{all_left}
 use Rattle.vcpu_core.specs.declared.lane.Lane.{Lane}
 use Rattle.vcpu_core.specs.Whole.{world_of}
-use Rattle.vcpu_core.specs.World.{World, lane_of, went_of}
-use Rattle.vcpu_core.proofs.InRow.{lane-at, may-goes, rests-erased, row-falls, row-none, row-one, went-stuck}
+use Rattle.vcpu_core.specs.World.{World, go_all, lane_of, row_of, went_of}
+use Rattle.vcpu_core.proofs.InRow.{go-stuck, lane-at, may-goes, rests-erased, row-falls, row-none, row-one, row-single, went-stuck}
 use Rattle.vcpu_core.proofs.LeftOver.{go_falls}
 use Rattle.vcpu_core.proofs.machine.Core.go_on.Goals as goal
 
 pub returns-then-not-may-clause-after : goal.returns-then-not-may-clause-after
 returns-then-not-may-clause-after c =
     sym (row-none c.args.self.now c.args.i c.args.limit (subst (λ (x : World). may x.board.rules x.board.state c.args.i ≡ false) c.self.view_is (sym c.if-not-may.ensures)))
+
+pub returns-then-not-may-clause-one : goal.returns-then-not-may-clause-one
+returns-then-not-may-clause-one c = λ single.
+    sym (go-stuck c.args.self.now c.args.i (subst (λ (x : World). may x.board.rules x.board.state c.args.i ≡ false) c.self.view_is (sym c.if-not-may.ensures)))
+
+pub returns-in-Running-clause-one : goal.returns-in-Running-clause-one
+returns-in-Running-clause-one c = λ single.
+    c.make_turn.ensures.after ∙ ap (λ n. go_all c.args.self.now (row_of c.args.self.now c.args.i n)) single ∙ row-single c.args.self.now c.args.i
 
 pub returns-then-not-may-clause-idle : goal.returns-then-not-may-clause-idle
 returns-then-not-may-clause-idle c = λ no.
@@ -37,9 +45,10 @@ returns-in_default c =
     let rests : (lane_of c.args.self.now c.args.i).phase ≢ Running = λ runs. c.in_default.not-Running (ap (λ (l : Lane). l.phase) same ∙ runs) in
     let e : went_of c.args.self.now c.args.i ≡ Erased = rests-erased c.args.self.now c.args.i m rests in
     record {
-      after = c.make_event.ensures.after ∙ sym (row-one c.args.self.now c.args.i c.args.limit e c.requires.some);
+      after = c.make_rest.ensures.after ∙ sym (row-one c.args.self.now c.args.i c.args.limit e c.requires.some);
+      one = λ single. c.make_rest.ensures.after;
       answer = sym m;
       idle = λ no. absurd (cc);
-      falls = λ yes. subst (λ (x : World). all_left x < all_left c.args.self.now) (sym c.make_event.ensures.after)
-          (go_falls c.args.self.now c.args.i c.make_event.ensures.ready (may-goes c.args.self.now c.args.i m));
+      falls = λ yes. subst (λ (x : World). all_left x < all_left c.args.self.now) (sym c.make_rest.ensures.after)
+          (go_falls c.args.self.now c.args.i c.make_rest.ensures.ready (may-goes c.args.self.now c.args.i m));
     }

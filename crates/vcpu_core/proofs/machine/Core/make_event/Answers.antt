@@ -5,7 +5,6 @@ use Rattle.std.proofs.lemmas.List.{with_items_is}
 use Rattle.std.proofs.lemmas.Grind.{common_steps}
 use Rattle.guest_ram.specs.Ram.{IsLaid}
 use Rattle.guest_board.specs.Board.{may}
-use Rattle.run_evidence.proofs.Steps.{may-slot}
 use Rattle.view_store.specs.Paged.{PagedView}
 use Rattle.vcpu_core.specs.declared.lane.Lane.{Lane}
 use Rattle.vcpu_core.specs.World.{World, IsReady, IsLaneReady, IsPagedReady, paged_in, gone}
@@ -22,11 +21,10 @@ ready_in c =
     let at : c.index_mut.result.now ≡ slice_index_or c.self.inside.lanes.items c.args.i c.index_mut.result.now = grind (arith, common_steps) in
     ready_lane (world_of c.self.inside) c.args.i c.index_mut.result.now (sym c.if-not-may.ensures) c.self.invariant.ready at
 
-pub event-requires-clause-number : goal.event-requires-clause-number
-event-requires-clause-number c =
+pub event-requires-clause-may : goal.event-requires-clause-may
+event-requires-clause-may c =
     let ready : IsLaneReady (world_of c.self.inside) c.args.i c.index_mut.result.now = ready_in c in
-    let below : c.args.i < length c.self.inside.board.state.slots = may-slot c.self.inside.board.rules c.self.inside.board.state c.args.i (sym c.if-not-may.ensures) in
-    subst (λ x. x < length c.self.inside.board.state.slots) (sym ready.number) below
+    subst (λ x. may c.self.inside.board.rules c.self.inside.board.state x ≡ true) (sym ready.number) (sym c.if-not-may.ensures)
 
 pub event-requires-clause-view : goal.event-requires-clause-view
 event-requires-clause-view c =
