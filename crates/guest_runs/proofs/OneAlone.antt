@@ -1,8 +1,6 @@
 -- The events of a run's one vCPU, as rounds.
-use Rattle.std.proofs.Common.{◌≡◌, ℕ, zero, suc, ◌+◌, refl, ◌∙◌, sym, ap, subst, List, [], ◌∷◌, ◌++◌, append_assoc, append-nil}
-use Rattle.vcpu_core.specs.World.{World, go_all, go_of, row_by, row_of, went_of}
-use Rattle.vcpu_core.specs.declared.lane.Went.{Went}
-use Rattle.vcpu_core.specs.declared.lane.Went.TheVariants.{Over, Stepped, Erased}
+use Rattle.std.proofs.Common.{◌≡◌, ℕ, zero, suc, ◌+◌, refl, ◌∙◌, sym, ap, subst, List, [], ◌∷◌, ◌++◌, replicate, append_assoc, append-nil}
+use Rattle.vcpu_core.specs.World.{World, go_all}
 use Rattle.guest_runs.specs.Engine.{RunsOut, rounds_of, round_of}
 use Rattle.guest_runs.proofs.Events.{go_all-append}
 
@@ -15,15 +13,9 @@ rounds-more (suc n) = ap (λ (is : List ℕ). is ++ 0 ∷ []) (rounds-more n)
 abbrev pub AreRounds : List ℕ → Type 0
 AreRounds is = (n : ℕ) × (is ≡ rounds_of 1 n)
 
-row-by : (went : Went) (later : List ℕ) → AreRounds later → AreRounds (row_by went 0 later)
-row-by Over later r = (0, refl)
-row-by Stepped later r = (suc r.0, ap (λ (is : List ℕ). 0 ∷ is) r.1 ∙ rounds-more r.0)
-row-by Erased later r = (1, refl)
-
-pub row-rounds : (w : World) (n : ℕ) → AreRounds (row_of w 0 n)
-unfolding row_of
-row-rounds w zero = (0, refl)
-row-rounds w (suc n) = row-by (went_of w 0) (row_of (go_of w 0) 0 n) (row-rounds (go_of w 0) n)
+pub row-rounds : (n : ℕ) → AreRounds (replicate n 0)
+row-rounds zero = (0, refl)
+row-rounds (suc n) = let r : AreRounds (replicate n 0) = row-rounds n in (suc r.0, ap (λ (is : List ℕ). 0 ∷ is) r.1 ∙ rounds-more r.0)
 
 rounds-add : (m n : ℕ) → AreRounds (rounds_of 1 m ++ rounds_of 1 n)
 rounds-add m zero = (m, append-nil (rounds_of 1 m))
@@ -32,10 +24,10 @@ rounds-add m (suc n) =
     (suc r.0, sym (append_assoc (rounds_of 1 m) (rounds_of 1 n) (round_of 1)) ∙ ap (λ (is : List ℕ). is ++ round_of 1) r.1)
 
 -- rounds led here, and a row goes on from here
-pub rounds-on : (first now new : World) (m n : ℕ) → now ≡ go_all first (rounds_of 1 m) → new ≡ go_all now (row_of now 0 n)
+pub rounds-on : (first now new : World) (m n : ℕ) → now ≡ go_all first (rounds_of 1 m) → new ≡ go_all now (replicate n 0)
     → (k : ℕ) × (new ≡ go_all first (rounds_of 1 k))
 rounds-on first now new m n led goes =
-    let r : AreRounds (row_of now 0 n) = row-rounds now n in
+    let r : AreRounds (replicate n 0) = row-rounds n in
     let both : AreRounds (rounds_of 1 m ++ rounds_of 1 r.0) = rounds-add m r.0 in (
       both.0,
       goes ∙ ap (λ (is : List ℕ). go_all now is) r.1 ∙ ap (λ (w : World). go_all w (rounds_of 1 r.0)) led

@@ -17,7 +17,7 @@ fn follow(core: &mut Core, script: &[VcpuNo])
     ensures { core.new ≡ go_all core.old script.now }
 {
     for i in script {
-        // Whether there was one shows in the core.
+        // How many there were shows in the core.
         let _ = core.go_on(*i, 1);
     }
 }
@@ -43,7 +43,7 @@ fn run_alone(core: &mut Core)
     ensures { RunsOut [] 1 core.old core.new }
 {
     loop {
-        if !core.go_on(VcpuNo(0), ROW) {
+        if core.go_on(VcpuNo(0), ROW) == 0 {
             return;
         }
     }

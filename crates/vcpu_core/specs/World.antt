@@ -1,7 +1,7 @@
 -- The view machine: a board, the views, and a lane for each vCPU, and what one event does to them.
 -- The rule: an event of a vCPU that may step goes by its lane's phase; a step, a need, a trap, a fill, a lookup or a mend.
 use Rattle.std.specs.Prelude.{◌≡◌, ℕ, ◌+◌, ◌<◌, ◌≤◌, if◌then◌else◌, List, [], ◌∷◌, length, slice_index_or, slice_set}
-use Rattle.std.proofs.Common.{zero, suc}
+use Rattle.guest_ram.specs.Ram.{Ram}
 use Rattle.function_table.specs.Groups.{Groups, IsGroups}
 use Rattle.view_file.specs.declared.views.Views.{Views}
 use Rattle.view_file.specs.declared.views.TheConstants.{APPS_MOST}
@@ -91,16 +91,6 @@ abbrev pub go_all : World → List ℕ → World
 go_all w [] = w
 go_all w (i ∷ is) = go_all (go_of w i) is
 
--- the events of vCPU i one after another, at most so many, and none after the first that is no step
-abbrev pub row_by : Went → ℕ → List ℕ → List ℕ
-row_by Over i later = []
-row_by Stepped i later = i ∷ later
-row_by Erased i later = i ∷ []
-
-unfoldable pub row_of : World → ℕ → ℕ → List ℕ
-row_of w i zero = []
-row_of w i (suc n) = row_by (went_of w i) i (row_of (go_of w i) i n)
-
 -- the members of the list that stepped
 abbrev pub kept_if : Went → ℕ → List ℕ → List ℕ
 kept_if Over i is = is
@@ -130,3 +120,9 @@ pub record IsReady (w : World) : Type 0 where
   pub lanes : length w.lanes ≡ length w.board.state.slots
   pub paged_views : (v : ℕ) → v < length w.paged_views → IsPagedReady w v (paged_in w.paged_views v)
   pub each : (i : ℕ) → i < length w.lanes → IsLaneReady w i (lane_of w i)
+
+-- the views beside a memory: one for each view of the profile, in order, each of the memory's text
+pub record AreViewsOf (memory : Ram) (profile : Views) (views : List PagedView) : Type 0 where
+  pub count : length views ≡ length profile.apps + 1
+  pub number : (v : ℕ) → v < length views → (paged_in views v).number ≡ v
+  pub text : (v : ℕ) → v < length views → (paged_in views v).groups.text ≡ memory.text

@@ -1,11 +1,11 @@
 //! The core of a run.
 
-ghost use Rattle.std.specs.Prelude.{◌≡◌, ◌≢◌, ◌≤◌, ◌<◌, ◌+◌, List, IfOk, length, slice_set, true, false};
+ghost use Rattle.std.specs.Prelude.{◌↔◌, replicate, ◌≡◌, ◌≢◌, ◌≤◌, ◌<◌, ◌+◌, List, IfOk, length, slice_set, true, false};
 ghost use Rattle.guest_input.specs.Accepted.{IsImage, IsSetupFor};
 ghost use Rattle.guest_ram.specs.Ram.{IsLaid};
 ghost use Rattle.guest_board.specs.Board.{Seat, may};
 ghost use Rattle.view_file.specs.declared.views.Views.{Views};
-ghost use Rattle.function_table.specs.Groups.{groups_of};
+ghost use Rattle.function_table.specs.Groups.{Groups, groups_of};
 ghost use Rattle.view_file.specs.Fits.{IsViewsFor};
 ghost use Rattle.vcpu_core.specs.declared.lane.Lane.{Lane};
 ghost use Rattle.vcpu_core.specs.declared.lane.Phase.{Phase};
@@ -14,11 +14,11 @@ ghost use Rattle.vcpu_core.specs.First.{first_world};
 ghost use Rattle.vcpu_core.specs.Placed.{IsPlacedPhase};
 ghost use Rattle.vcpu_core.specs.Stages.{AreStagesFor};
 ghost use Rattle.vcpu_core.specs.Waits.{all_left, left_of};
-ghost use Rattle.vcpu_core.specs.World.{World, go_of, went_of, go_all, gone, went_in, row_of, IsReady, paged_in, lane_of};
+ghost use Rattle.vcpu_core.specs.World.{World, go_of, went_of, go_all, gone, went_in, AreViewsOf, IsReady, paged_in, lane_of};
 
-use crate::lane::{Lane, Phase, Went};
+use crate::lane::{Lane, Phase, Taken, Then, Went};
 use crate::open::{start_lanes, start_stages, start_views};
-use crate::rows::{fill, look_up, mend, step_once, turn};
+use crate::rows::{RowStage, fill, look_up, mend, step_once, take_step, view_after, view_named};
 use chain_log::entry::LogEntry;
 use fc_numbers::machine::End;
 use fc_numbers::memory::NoMemory;
@@ -120,6 +120,54 @@ fn event(
     }
 }
 
+/// Events of a lane that runs, one after another: steps, and fills of the lines that they need. They end where so many
+/// were made, at a zero that traps, and where the vCPU may not step. Answers how many they were.
+fn row(
+    profile: &Views,
+    board: &mut Board,
+    stages: &[GTable],
+    views: &[View],
+    lane: &mut Lane,
+    limit: u32,
+) -> u32
+    requires may { may board.old.rules board.old.state lane.old.vcpu ≡ true }
+    requires running { lane.old.phase ≡ Running }
+    requires some { 1 ≤ limit }
+    requires stages { AreStagesFor board.old.state.ram (length profile.now.apps + 1) stages.now }
+    requires laid { IsLaid board.old.state.ram }
+    requires views { AreViewsOf board.old.state.ram profile.now views.now }
+    ensures after { (groups : Groups) → (lanes : List Lane) →
+        (let old : World = record { profile = profile.now; groups = groups; board = board.old; paged_views = views.now; lanes = lanes } in
+        let new : World = record { profile = profile.now; groups = groups; board = board.new; paged_views = views.now; lanes = slice_set lanes lane.old.vcpu lane.new } in
+        lane.old.vcpu < length lanes → lane_of old lane.old.vcpu ≡ lane.old → new ≡ go_all old (replicate result lane.old.vcpu)) }
+    ensures some { 1 ≤ result }
+    ensures most { result ≤ limit }
+    ensures stages { AreStagesFor board.new.state.ram (length profile.now.apps + 1) stages.now }
+{
+    let mut view = view_named(board, profile, lane.vcpu);
+    let mut made = 0;
+    while made < limit && board.may(lane.vcpu) {
+        let stage = RowStage {
+            table: &stages[view.0 as usize],
+        };
+        made += 1;
+        match take_step(board, profile, &stage, view, lane) {
+            Taken::Step { hooked } => view = view_after(hooked, view, board, profile, lane.vcpu),
+            Taken::End(then) => match then {
+                Then::Need => {
+                    if made == limit {
+                        return made;
+                    }
+                    made += 1;
+                    fill(&views[view.0 as usize], lane);
+                }
+                _ => return made,
+            },
+        }
+    }
+    made
+}
+
 impl<'a> Core<'a> {
     /// The core before the first event of a run of this image by this setup, under these views: each view has its base and
     /// an empty log, each vCPU the view of the setup's first name. `table` is the image's groups.
@@ -203,46 +251,51 @@ impl<'a> Core<'a> {
         self.make_event(i)
     }
 
-    /// Events of vCPU i one after another: at most `limit`, and none after the first that is no step. Answers whether the
-    /// vCPU might step; then there was one, and less is left of the run of all.
-    pub fn go_on(&mut self, i: VcpuNo, limit: u32) -> bool
+    /// Events of vCPU i one after another, at most `limit`: one, or, where its lane runs, steps and the fills that they
+    /// need. Answers how many they were: none where the vCPU may not step. Each leaves less of the run of all.
+    pub fn go_on(&mut self, i: VcpuNo, limit: u32) -> u32
         requires some { 1 ≤ limit }
-        ensures after { self.new ≡ go_all self.old (row_of self.old i limit) }
+        ensures after { self.new ≡ go_all self.old (replicate result i) }
+        ensures most { result ≤ limit }
+        ensures falls { 1 ≤ result → all_left self.new < all_left self.old }
         ensures one { limit ≡ 1 → self.new ≡ go_of self.old i }
-        ensures answer { result ≡ may self.old.board.rules self.old.board.state i }
-        ensures falls { result ≡ true → all_left self.new < all_left self.old }
-        ensures idle { result ≡ false → went_of self.new i ≡ Went.Over }
+        ensures answer { (1 ≤ result) ↔ (may self.old.board.rules self.old.board.state i ≡ true) }
+        ensures idle { result ≡ 0 → went_of self.new i ≡ Went.Over }
     {
         if !self.board.may(i) {
-            return false;
+            return 0;
         }
         match self.lanes[i.0 as usize].phase {
-            Phase::Running => self.make_turn(i, limit),
-            _ => self.make_rest(i),
+            Phase::Running => self.make_row(i, limit),
+            _ => {
+                self.make_rest(i);
+                1
+            }
         }
-        true
     }
 
-    /// Steps of vCPU i, whose lane runs, until so many were made or an event is none.
-    fn make_turn(&mut self, i: VcpuNo, limit: u32)
+    /// Events of vCPU i, whose lane runs. Answers how many they were.
+    fn make_row(&mut self, i: VcpuNo, limit: u32) -> u32
         requires may { may self.old.board.rules self.old.board.state i ≡ true }
         requires running { (lane_of self.old i).phase ≡ Running }
         requires some { 1 ≤ limit }
-        ensures after { self.new ≡ go_all self.old (row_of self.old i limit) }
+        ensures after { self.new ≡ go_all self.old (replicate result i) }
+        ensures some { 1 ≤ result }
+        ensures most { result ≤ limit }
         ensures ready { IsReady self.old }
         ensures laid { IsLaid self.old.board.state.ram }
     {
         let at = i.0 as usize;
         // The call says that the memory is laid out.
         let _laid = self.board.ram().text();
-        // Why the turn ended shows in the lane.
-        let _ = turn(
-            &mut self.board,
+        row(
             self.profile,
+            &mut self.board,
             &self.stages,
+            &self.views,
             &mut self.lanes[at],
             limit,
-        );
+        )
     }
 
     /// The event of vCPU i, whose lane does not run.

@@ -57,7 +57,7 @@ fn note_trap(board: &Board, lane: &mut Lane, place: Gpa)
 
 /// One event of a lane that runs, whose vCPU has this view and may step. Each access of a step asks the stage where its
 /// place lies.
-fn take_step<S: SecondStage>(
+pub(crate) fn take_step<S: SecondStage>(
     board: &mut Board,
     views: &Views,
     stage: &S,
@@ -91,7 +91,7 @@ fn take_step<S: SecondStage>(
 /// The view of a vCPU by its name.
 #[cold]
 #[inline(never)]
-fn view_named(board: &Board, views: &Views, vcpu: VcpuNo) -> ViewNo
+pub(crate) fn view_named(board: &Board, views: &Views, vcpu: VcpuNo) -> ViewNo
     requires { vcpu < length board.now.state.slots }
     ensures value { result ≡ view_named views.now (name_of board.now.state vcpu) }
     ensures within { result ≤ length views.now.apps }
@@ -100,7 +100,13 @@ fn view_named(board: &Board, views: &Views, vcpu: VcpuNo) -> ViewNo
 }
 
 /// The view of a vCPU after a step: it is asked for anew only where the step fetched the hook's place.
-fn view_after(hooked: bool, view: ViewNo, board: &Board, views: &Views, vcpu: VcpuNo) -> ViewNo
+pub(crate) fn view_after(
+    hooked: bool,
+    view: ViewNo,
+    board: &Board,
+    views: &Views,
+    vcpu: VcpuNo,
+) -> ViewNo
     requires number { vcpu < length board.now.state.slots }
     requires view { hooked ≡ false → view ≡ view_named views.now (name_of board.now.state vcpu) }
     requires within { view ≤ length views.now.apps }
@@ -151,14 +157,31 @@ pub fn turn(
     }
 }
 
-/// The second stage of one event. The step is compiled for it apart from that of a turn, so that each has one caller and
-/// becomes part of it.
+/// The second stage of one event. The step is compiled for it apart from those of a turn and a row, so that each has one
+/// caller and becomes part of it.
 #[derive(Drop)]
 struct EventStage<'a> {
     table: &'a GTable,
 }
 
 impl<'a> SecondStage for EventStage<'a> {
+    ghost text = { λ s. s.table.now.text };
+
+    ghost ram = { λ s. s.table.now.ram };
+
+    #[inline(always)]
+    fn place(&self, at: Gpa, access: Access) -> Placed {
+        self.table.place(at, access)
+    }
+}
+
+/// The second stage of a row of events, likewise.
+#[derive(Drop)]
+pub(crate) struct RowStage<'a> {
+    pub(crate) table: &'a GTable,
+}
+
+impl<'a> SecondStage for RowStage<'a> {
     ghost text = { λ s. s.table.now.text };
 
     ghost ram = { λ s. s.table.now.ram };

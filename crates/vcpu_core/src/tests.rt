@@ -249,7 +249,7 @@ fn a_turn_ends_at_its_limit_and_where_no_step_is_left(rt: HostRuntime) -> Result
 }
 
 #[test]
-fn a_row_of_events_ends_at_its_limit_and_at_the_first_that_is_no_step(
+fn a_row_of_events_makes_needs_and_fills_and_ends_at_its_limit(
     rt: HostRuntime,
 ) -> Result<(), Fail> {
     let alloc = rt.alloc();
@@ -261,14 +261,18 @@ fn a_row_of_events_ends_at_its_limit_and_at_the_first_that_is_no_step(
         &parts.setup,
         &parts.profile,
     )?;
-    // The need of the line and its fill are a row each, and then 100 steps are 13 rows of at most 8.
+    // The need of the line, its fill and 100 steps: 12 rows of 8 events and one of 6.
     let mut last = 0;
+    let mut of_last = 0;
     for row in 1..20 {
-        if core.go_on(VcpuNo(0), 8) {
+        let made = core.go_on(VcpuNo(0), 8);
+        if made != 0 {
             last = row;
+            of_last = made;
         }
     }
-    assert!(rt; last == 15);
+    assert!(rt; last == 13);
+    assert!(rt; of_last == 6);
     assert!(rt; core.end() == Some(End::Spent));
     Ok(())
 }
