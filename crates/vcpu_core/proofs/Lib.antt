@@ -1,4 +1,5 @@
 pub mod Bases
+pub mod Newest
 pub mod Verdicts
 pub mod Truth
 pub mod Run

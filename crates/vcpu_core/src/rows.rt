@@ -213,15 +213,18 @@ pub fn step_once(board: &mut Board, views: &Views, stages: &[GTable], lane: &mut
     }
 }
 
-/// How many windows a lane keeps beside a new one.
-const OTHERS: usize = 3;
-
 /// One more window, in front, where the next steps look first; of four the oldest goes.
+#[tactic(auto, using(crate::proofs::Newest::newest_of_four, crate::proofs::Newest::newest_of_few))]
 fn hold(held: &mut ArrayVec<Window, 4>, window: Window)
     ensures { held.new.items ≡ with_newest held.old.items window }
 {
-    held.truncate(OTHERS);
-    held.insert(0, window);
+    if held.is_full() {
+        let windows = held.as_mut_slice();
+        windows.rotate_right(1);
+        windows[0] = window;
+    } else {
+        held.insert(0, window);
+    }
 }
 
 /// Takes the window of the line that the lane wants, of its view as it is.
