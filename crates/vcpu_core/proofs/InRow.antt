@@ -147,7 +147,7 @@ set-again [] i x y = refl
 set-again (l ∷ ls) zero x y = refl
 set-again (l ∷ ls) (suc i) x y = ap (λ (lanes : List Lane). l ∷ lanes) (set-again ls i x y)
 
-stays : (w : World) (i : ℕ) (l : Lane) → lane_of w i ≡ l → w ≡ record w { lanes = slice_set w.lanes i l }
+pub stays : (w : World) (i : ℕ) (l : Lane) → lane_of w i ≡ l → w ≡ record w { lanes = slice_set w.lanes i l }
 stays w i l is =
     ap (λ (ls : List Lane). record w { lanes = ls }) (sym (set-itself w.lanes i (blank_lane i)) ∙ ap (λ (x : Lane). slice_set w.lanes i x) is)
 
@@ -168,30 +168,42 @@ abbrev pub EventLeads : Views → List PagedView → ℕ → Seat → Seat → L
 EventLeads profile paged_views i b b' l l' = (groups : Groups) (lanes : List Lane)
     → world_with profile groups paged_views b' (slice_set lanes i l') ≡ gone (world_with profile groups paged_views b lanes) i l l.phase
 
-pub row-more : (profile : Views) (paged_views : List PagedView) (first b b' : Seat) (l0 l l' : Lane) (n : ℕ) → RowLeads profile paged_views first b l0 l n
-    → l.vcpu ≡ l0.vcpu → may b.rules b.state l.vcpu ≡ true → EventLeads profile paged_views l.vcpu b b' l l'
-    → RowLeads profile paged_views first b' l0 l' (n + 1)
-row-more profile paged_views first b b' l0 l l' n led own m event groups lanes inside is =
-    let i : ℕ = l0.vcpu in
+-- the event of a vCPU that may step, whose lane stands at its number
+pub goes-next : (profile : Views) (paged_views : List PagedView) (b b' : Seat) (i : ℕ) (l l' : Lane) (groups : Groups) (lanes : List Lane) → i < length lanes
+    → l.vcpu ≡ i → may b.rules b.state l.vcpu ≡ true → EventLeads profile paged_views l.vcpu b b' l l'
+    → world_with profile groups paged_views b' (slice_set lanes i l') ≡ go_of (world_with profile groups paged_views b (slice_set lanes i l)) i
+goes-next profile paged_views b b' i l l' groups lanes inside own m event =
     let here : World = world_with profile groups paged_views b (slice_set lanes i l) in
     let may-here : may b.rules b.state i ≡ true = subst (λ k. may b.rules b.state k ≡ true) own m in
     let at : lane_of here i ≡ l = get_or-set_same lanes i l (blank_lane i) inside in
     let made : world_with profile groups paged_views b' (slice_set (slice_set lanes i l) i l') ≡ gone here i l l.phase =
     subst (λ k. world_with profile groups paged_views b' (slice_set (slice_set lanes i l) k l') ≡ gone here k l l.phase) own (event groups (slice_set lanes i l)) in
-    let more : suc n ≡ n + 1 = omega arith in
     ap (λ (ls : List Lane). world_with profile groups paged_views b' ls) (sym (set-again lanes i l l'))
     ∙ made ∙ ap (λ (x : Lane). gone here i x x.phase) (sym at) ∙ sym (go-gone here i may-here)
+
+pub row-more : (profile : Views) (paged_views : List PagedView) (first b b' : Seat) (l0 l l' : Lane) (n : ℕ) → RowLeads profile paged_views first b l0 l n
+    → l.vcpu ≡ l0.vcpu → may b.rules b.state l.vcpu ≡ true → EventLeads profile paged_views l.vcpu b b' l l'
+    → RowLeads profile paged_views first b' l0 l' (n + 1)
+row-more profile paged_views first b b' l0 l l' n led own m event groups lanes inside is =
+    let i : ℕ = l0.vcpu in
+    let more : suc n ≡ n + 1 = omega arith in
+    goes-next profile paged_views b b' i l l' groups lanes inside own m event
     ∙ ap (λ (w : World). go_of w i) (led groups lanes inside is)
     ∙ sym (row-next (world_with profile groups paged_views first lanes) i n)
     ∙ ap (λ k. go_all (world_with profile groups paged_views first lanes) (replicate k i)) more
+
+-- the event of a step, a need or a zero
+pub step-leads : (profile : Views) (paged_views : List PagedView) (b b' : Seat) (l l' : Lane) → l.phase ≡ Running → b' ≡ board_after profile b l → l' ≡ lane_after profile b l
+    → EventLeads profile paged_views l.vcpu b b' l l'
+step-leads profile paged_views b b' l l' runs board lane groups lanes =
+    event-running profile groups paged_views lanes b b' l l' board lane ∙ ap (λ (q : Phase). gone (world_with profile groups paged_views b lanes) l.vcpu l q) (sym runs)
 
 -- a step in a row
 pub row-steps : (profile : Views) (paged_views : List PagedView) (first b b' : Seat) (l0 l l' : Lane) (n : ℕ) → RowLeads profile paged_views first b l0 l n
     → l.vcpu ≡ l0.vcpu → may b.rules b.state l.vcpu ≡ true → l.phase ≡ Running → b' ≡ board_after profile b l → l' ≡ lane_after profile b l
     → RowLeads profile paged_views first b' l0 l' (n + 1)
 row-steps profile paged_views first b b' l0 l l' n led own m runs board lane =
-    row-more profile paged_views first b b' l0 l l' n led own m
-    (λ groups lanes. event-running profile groups paged_views lanes b b' l l' board lane ∙ ap (λ (q : Phase). gone (world_with profile groups paged_views b lanes) l.vcpu l q) (sym runs))
+    row-more profile paged_views first b b' l0 l l' n led own m (step-leads profile paged_views b b' l l' runs board lane)
 
 pub step-runs : (profile : Views) (b b' : Seat) (l l' : Lane) (hooked : Bool) → b' ≡ board_after profile b l → l' ≡ lane_after profile b l
     → Step hooked ≡ taken_by b.rules (verdict_for profile b l) → IsRunningOn b b' l l'
@@ -205,14 +217,18 @@ filled : (w : World) (i n : ℕ) (l : Lane) → record w { lanes = slice_set w.l
 unfolding gone
 filled w i n l = refl
 
+pub fill-leads : (profile : Views) (paged_views : List PagedView) (b : Seat) (l l' : Lane) (line : ℕ) → l.phase ≡ Wants line → l' ≡ after_fill (paged_in paged_views l.windows.view) line l
+    → EventLeads profile paged_views l.vcpu b b l l'
+fill-leads profile paged_views b l l' line wants lane groups lanes =
+    ap (λ (x : Lane). world_with profile groups paged_views b (slice_set lanes l.vcpu x)) lane
+    ∙ filled (world_with profile groups paged_views b lanes) l.vcpu line l
+    ∙ ap (λ (q : Phase). gone (world_with profile groups paged_views b lanes) l.vcpu l q) (sym wants)
+
 pub row-fills : (profile : Views) (paged_views : List PagedView) (first b : Seat) (l0 l l' : Lane) (n line : ℕ) → RowLeads profile paged_views first b l0 l n
     → l.vcpu ≡ l0.vcpu → may b.rules b.state l.vcpu ≡ true → l.phase ≡ Wants line → l' ≡ after_fill (paged_in paged_views l.windows.view) line l
     → RowLeads profile paged_views first b l0 l' (n + 1)
 row-fills profile paged_views first b l0 l l' n line led own m wants lane =
-    row-more profile paged_views first b b l0 l l' n led own m
-    (λ groups lanes. ap (λ (x : Lane). world_with profile groups paged_views b (slice_set lanes l.vcpu x)) lane
-    ∙ filled (world_with profile groups paged_views b lanes) l.vcpu line l
-    ∙ ap (λ (q : Phase). gone (world_with profile groups paged_views b lanes) l.vcpu l q) (sym wants))
+    row-more profile paged_views first b b l0 l l' n led own m (fill-leads profile paged_views b l l' line wants lane)
 
 -- after a need the board is as it was, and the lane wants a line of text
 pub record IsNeedMet (profile : Views) (b b' : Seat) (l l' : Lane) : Type 0 where

@@ -1,5 +1,5 @@
 -- What every event keeps: the board is the full kernel's run, the logs are evidence, the lanes are truthful.
-use Rattle.std.proofs.Common.{◌≡◌, ◌≢◌, ℕ, zero, suc, ◌+◌, ◌<◌, true, false, Bool, List, [], ◌∷◌, ◌++◌, length, refl, sym, ap, subst, ◌∙◌, arith, append_assoc, append-nil, replicate}
+use Rattle.std.proofs.Common.{◌≡◌, ◌≢◌, ℕ, zero, suc, ◌<◌, true, false, Bool, List, [], ◌∷◌, ◌++◌, length, refl, sym, ap, subst, ◌∙◌, arith, append_assoc, append-nil, replicate}
 use Rattle.std.specs.Prelude.{◌||◌, slice_set, if◌then◌else◌}
 use Rattle.chain_log.specs.declared.entry.LogEntry.{LogEntry}
 use Rattle.chain_log.specs.declared.entry.Trapped.{Trapped as Trapping}

@@ -17,6 +17,7 @@ pub mod Events
 pub mod Waiting
 pub mod LeftOver
 pub mod InRow
+pub mod Counted
 pub mod Bound
 pub mod Undisturbed
 pub mod Alone

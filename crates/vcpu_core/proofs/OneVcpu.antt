@@ -1,5 +1,5 @@
 -- With one vCPU the logs are in order, and where the run has ended they are its misses.
-use Rattle.std.proofs.Common.{◌≡◌, ℕ, ◌+◌, ◌<◌, true, false, Bool, List, [], ◌∷◌, ◌++◌, length, refl, sym, ap, subst, ◌∙◌, arith, None, length-set}
+use Rattle.std.proofs.Common.{◌≡◌, ℕ, ◌<◌, true, false, Bool, List, [], ◌∷◌, ◌++◌, length, refl, sym, ap, subst, ◌∙◌, arith, None, length-set}
 use Rattle.std.specs.Prelude.{IsSome, slice_index_or, slice_set, if◌then◌else◌}
 use Rattle.chain_log.specs.declared.entry.LogEntry.{LogEntry}
 use Rattle.view_file.specs.Named.{view_named}

@@ -1,5 +1,5 @@
 -- What a lane keeps when other vCPUs step and when logs grow.
-use Rattle.std.proofs.Common.{◌≡◌, ℕ, ◌+◌, ◌<◌, List, [], ◌∷◌, ◌++◌, refl, sym, ap, subst, ◌∙◌, arith, length-append}
+use Rattle.std.proofs.Common.{◌≡◌, ℕ, ◌<◌, List, [], ◌∷◌, ◌++◌, refl, sym, ap, subst, ◌∙◌, arith, length-append}
 use Rattle.function_table.proofs.GroupLemmas.{group-below}
 use Rattle.function_table.specs.Groups.{group_at, groups_count}
 use Rattle.view_file.specs.Named.{view_named}

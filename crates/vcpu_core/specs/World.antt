@@ -1,6 +1,7 @@
 -- The view machine: a board, the views, and a lane for each vCPU, and what one event does to them.
 -- The rule: an event of a vCPU that may step goes by its lane's phase; a step, a need, a trap, a fill, a lookup or a mend.
 use Rattle.std.specs.Prelude.{◌≡◌, ℕ, ◌+◌, ◌<◌, ◌≤◌, if◌then◌else◌, List, [], ◌∷◌, length, slice_index_or, slice_set}
+use Rattle.std.proofs.Common.{zero, suc}
 use Rattle.guest_ram.specs.Ram.{Ram}
 use Rattle.function_table.specs.Groups.{Groups, IsGroups}
 use Rattle.view_file.specs.declared.views.Views.{Views}
@@ -90,6 +91,25 @@ went_of w i = if may w.board.rules w.board.state i then went_in w i (lane_of w i
 abbrev pub go_all : World → List ℕ → World
 go_all w [] = w
 go_all w (i ∷ is) = go_all (go_of w i) is
+
+-- the events behind one that leaves the lane in this phase: none behind a trap
+abbrev pub row_past : Phase → ℕ → ℕ
+row_past Running later = later
+row_past (Wants n) later = later
+row_past (Trapped trap) later = 0
+row_past (Looked looked) later = 0
+
+-- how many events a row of vCPU i has, of at most so many: it ends where the vCPU may not step, and at a trap of its lane
+unfoldable pub row_count : World → ℕ → ℕ → ℕ
+row_count w i zero = 0
+row_count w i (suc n) = if may w.board.rules w.board.state i then 1 + row_past (lane_of (go_of w i) i).phase (row_count (go_of w i) i n) else 0
+
+-- a lane that runs has a row; another has one event
+abbrev pub row_limit : Phase → ℕ → ℕ
+row_limit Running limit = limit
+row_limit (Wants n) limit = 1
+row_limit (Trapped trap) limit = 1
+row_limit (Looked looked) limit = 1
 
 -- the members of the list that stepped
 abbrev pub kept_if : Went → ℕ → List ℕ → List ℕ

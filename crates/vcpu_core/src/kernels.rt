@@ -255,3 +255,8 @@ pub(crate) fn rows() -> &'static [Row] {
 pub(crate) fn spin() -> Files {
     SPIN
 }
+
+/// A kernel whose app is missing the function that it calls, with two vCPUs.
+pub(crate) fn split() -> Files {
+    SPLIT
+}

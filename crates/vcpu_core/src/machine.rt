@@ -1,6 +1,6 @@
 //! The core of a run.
 
-ghost use Rattle.std.specs.Prelude.{◌↔◌, replicate, ◌≡◌, ◌≢◌, ◌≤◌, ◌<◌, ◌+◌, List, IfOk, length, slice_set, true, false};
+ghost use Rattle.std.specs.Prelude.{◌↔◌, replicate, ◌≡◌, ◌≢◌, ◌≤◌, ◌<◌, ◌+◌, List, IfOk, length, slice_set, true};
 ghost use Rattle.guest_input.specs.Accepted.{IsImage, IsSetupFor};
 ghost use Rattle.guest_ram.specs.Ram.{IsLaid};
 ghost use Rattle.guest_board.specs.Board.{Seat, may};
@@ -14,7 +14,7 @@ ghost use Rattle.vcpu_core.specs.First.{first_world};
 ghost use Rattle.vcpu_core.specs.Placed.{IsPlacedPhase};
 ghost use Rattle.vcpu_core.specs.Stages.{AreStagesFor};
 ghost use Rattle.vcpu_core.specs.Waits.{all_left, left_of};
-ghost use Rattle.vcpu_core.specs.World.{World, go_of, went_of, go_all, gone, went_in, AreViewsOf, IsReady, paged_in, lane_of};
+ghost use Rattle.vcpu_core.specs.World.{World, go_of, went_of, go_all, gone, went_in, AreViewsOf, IsReady, paged_in, lane_of, row_count, row_limit};
 
 use crate::lane::{Lane, Phase, Taken, Then, Went};
 use crate::open::{start_lanes, start_stages, start_views};
@@ -140,6 +140,9 @@ fn row(
         (let old : World = record { profile = profile.now; groups = groups; board = board.old; paged_views = views.now; lanes = lanes } in
         let new : World = record { profile = profile.now; groups = groups; board = board.new; paged_views = views.now; lanes = slice_set lanes lane.old.vcpu lane.new } in
         lane.old.vcpu < length lanes → lane_of old lane.old.vcpu ≡ lane.old → new ≡ go_all old (replicate result lane.old.vcpu)) }
+    ensures count { (groups : Groups) → (lanes : List Lane) →
+        (let old : World = record { profile = profile.now; groups = groups; board = board.old; paged_views = views.now; lanes = lanes } in
+        lane.old.vcpu < length lanes → lane_of old lane.old.vcpu ≡ lane.old → result ≡ row_count old lane.old.vcpu limit) }
     ensures some { 1 ≤ result }
     ensures most { result ≤ limit }
     ensures stages { AreStagesFor board.new.state.ram (length profile.now.apps + 1) stages.now }
@@ -252,10 +255,12 @@ impl<'a> Core<'a> {
     }
 
     /// Events of vCPU i one after another, at most `limit`: one, or, where its lane runs, steps and the fills that they
-    /// need. Answers how many they were: none where the vCPU may not step. Each leaves less of the run of all.
+    /// need, until the vCPU may not step or a zero traps. Answers how many they were: none where the vCPU may not step.
+    /// Each leaves less of the run of all.
     pub fn go_on(&mut self, i: VcpuNo, limit: u32) -> u32
         requires some { 1 ≤ limit }
         ensures after { self.new ≡ go_all self.old (replicate result i) }
+        ensures count { result ≡ row_count self.old i (row_limit (lane_of self.old i).phase limit) }
         ensures most { result ≤ limit }
         ensures falls { 1 ≤ result → all_left self.new < all_left self.old }
         ensures one { limit ≡ 1 → self.new ≡ go_of self.old i }
@@ -280,6 +285,7 @@ impl<'a> Core<'a> {
         requires running { (lane_of self.old i).phase ≡ Running }
         requires some { 1 ≤ limit }
         ensures after { self.new ≡ go_all self.old (replicate result i) }
+        ensures count { result ≡ row_count self.old i (row_limit (lane_of self.old i).phase limit) }
         ensures some { 1 ≤ result }
         ensures most { result ≤ limit }
         ensures ready { IsReady self.old }
@@ -304,6 +310,7 @@ impl<'a> Core<'a> {
         requires may { may self.old.board.rules self.old.board.state i ≡ true }
         requires rests { (lane_of self.old i).phase ≢ Running }
         ensures after { self.new ≡ go_of self.old i }
+        ensures rests { (lane_of self.old i).phase ≢ Running }
         ensures ready { IsReady self.old }
     {
         let at = i.0 as usize;

@@ -6,7 +6,7 @@ ghost use Rattle.guest_input.specs.Accepted.{IsImage, IsSetupFor};
 ghost use Rattle.view_file.specs.Fits.{IsViewsFor};
 ghost use Rattle.vcpu_core.specs.Stages.{AreStagesFor};
 
-use crate::kernels::{Entry, Files, Row, rows, spin};
+use crate::kernels::{Entry, Files, Row, rows, spin, split};
 use crate::lane::{Lane, Phase, Then, Turned, Went};
 use crate::machine::Core;
 use crate::open::start_stages;
@@ -274,5 +274,29 @@ fn a_row_of_events_makes_needs_and_fills_and_ends_at_its_limit(
     assert!(rt; last == 13);
     assert!(rt; of_last == 6);
     assert!(rt; core.end() == Some(End::Spent));
+    Ok(())
+}
+
+#[test]
+fn a_row_of_events_ends_at_a_trap_and_with_the_run(rt: HostRuntime) -> Result<(), Fail> {
+    let alloc = rt.alloc();
+    let parts = read(alloc, split())?;
+    let mut core = Core::open(
+        alloc,
+        &parts.image,
+        &parts.table,
+        &parts.setup,
+        &parts.profile,
+    )?;
+    // A need, its fill, the call, and the zero of `w`.
+    assert_eq!(rt; core.go_on(VcpuNo(0), 100), 4);
+    // The look-up, and the mend.
+    assert_eq!(rt; core.go_on(VcpuNo(0), 100), 1);
+    assert_eq!(rt; core.go_on(VcpuNo(0), 100), 1);
+    // A need, its fill, and a step; a need of the next line, its fill, and five steps, of which the last shuts down.
+    assert_eq!(rt; core.go_on(VcpuNo(0), 100), 10);
+    assert_eq!(rt; core.go_on(VcpuNo(0), 100), 0);
+    assert!(rt; core.end() == Some(End::Shutdown));
+    assert!(rt; core.console() == b"A".as_slice());
     Ok(())
 }

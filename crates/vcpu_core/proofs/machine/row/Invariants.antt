@@ -5,12 +5,14 @@ use Rattle.guest_board.specs.Board.{may, name_of}
 use Rattle.vcpu_core.specs.declared.lane.Phase.TheVariants.{Running}
 use Rattle.vcpu_core.specs.Stages.{AreStagesFor}
 use Rattle.vcpu_core.specs.World.{AreViewsOf}
+use Rattle.vcpu_core.proofs.Counted.{RowCounts}
 use Rattle.vcpu_core.proofs.InRow.{RowLeads}
 use Rattle.vcpu_core.proofs.machine.row.Given as goal
 
 abbrev pub invariant-loop-made : goal.invariant-loop-made
 invariant-loop-made l = record {
   leads : RowLeads l.profile l.views l.fn.board l.board l.fn.lane l.lane l.made;
+  counts : RowCounts l.profile l.views l.fn.board l.board l.fn.lane l.lane l.made;
   own : l.lane.vcpu ≡ l.fn.lane.vcpu;
   running : l.lane.phase ≡ Running;
   number : l.lane.vcpu < length l.board.state.slots;

@@ -1,7 +1,8 @@
 use Rattle.std.proofs.Common.{◌≡◌, ◌<◌, ◌∙◌, ap, arith, false, refl, replicate, subst, sym, true}
 use Rattle.guest_board.specs.Board.{may}
 use Rattle.vcpu_core.specs.Waits.{all_left}
-use Rattle.vcpu_core.specs.World.{World, go_all}
+use Rattle.vcpu_core.specs.World.{World, go_all, lane_of, row_count, row_limit}
+use Rattle.vcpu_core.proofs.Counted.{count-one, count-stuck, limit-rests}
 use Rattle.vcpu_core.proofs.InRow.{go-stuck, may-goes, row-falls, went-stuck}
 use Rattle.vcpu_core.proofs.LeftOver.{go_falls}
 use Rattle.vcpu_core.proofs.machine.Core.go_on.Goals as goal
@@ -12,6 +13,7 @@ returns-then-not-may c =
     subst (λ (x : World). may x.board.rules x.board.state c.args.i ≡ false) c.self.view_is (sym c.if-not-may.ensures) in
     record {
       after = refl;
+      count = sym (count-stuck c.args.self.now c.args.i (row_limit (lane_of c.args.self.now c.args.i).phase c.args.limit) no);
       most = omega arith;
       falls = λ some. absurd (omega (arith, some));
       one = λ single. sym (go-stuck c.args.self.now c.args.i no);
@@ -25,6 +27,7 @@ returns-in-Running c =
     subst (λ (x : World). may x.board.rules x.board.state c.args.i ≡ true) c.self.view_is (sym c.if-not-may.ensures) in
     record {
       after = c.make_row.ensures.after;
+      count = c.make_row.ensures.count;
       most = c.make_row.ensures.most;
       falls = λ some. subst (λ (x : World). all_left x < all_left c.args.self.now) (sym c.make_row.ensures.after)
           (row-falls c.args.self.now c.args.i c.make_row.result (record { ready = c.make_row.ensures.ready; laid = c.make_row.ensures.laid }) m some);
@@ -40,6 +43,7 @@ returns-in_default c =
     subst (λ (x : World). may x.board.rules x.board.state c.args.i ≡ true) c.self.view_is (sym c.if-not-may.ensures) in
     record {
       after = c.make_rest.ensures.after;
+      count = sym (ap (λ n. row_count c.args.self.now c.args.i n) (limit-rests (lane_of c.args.self.now c.args.i).phase c.args.limit c.make_rest.ensures.rests) ∙ count-one c.args.self.now c.args.i m);
       most = c.requires.some;
       falls = λ some. subst (λ (x : World). all_left x < all_left c.args.self.now) (sym c.make_rest.ensures.after)
           (go_falls c.args.self.now c.args.i c.make_rest.ensures.ready (may-goes c.args.self.now c.args.i m));

@@ -6,10 +6,12 @@ use Rattle.guest_ram.specs.Ram.{IsLaid}
 use Rattle.guest_board.specs.Board.{may}
 use Rattle.view_store.specs.Paged.{PagedView}
 use Rattle.vcpu_core.specs.declared.lane.Lane.{Lane}
+use Rattle.vcpu_core.specs.declared.lane.Phase.{Phase}
 use Rattle.vcpu_core.specs.declared.lane.Phase.TheVariants.{Running}
 use Rattle.vcpu_core.specs.Stages.{AreStagesFor}
 use Rattle.vcpu_core.specs.Whole.{world_of}
-use Rattle.vcpu_core.specs.World.{AreViewsOf, World, IsReady, go_all, lane_of}
+use Rattle.vcpu_core.specs.World.{AreViewsOf, World, IsReady, go_all, lane_of, row_count, row_limit}
+use Rattle.vcpu_core.proofs.Counted.{RowHas, count-at}
 use Rattle.vcpu_core.proofs.InRow.{IsSet, RowLeads, all-set, lane-at, ready_lane, row-at, views-ready, world_with}
 use Rattle.vcpu_core.proofs.machine.Core.make_row.Goals as goal
 
@@ -63,3 +65,15 @@ returns-clause-after c =
     row-at w c.args.i c.row.result l c.row.new.lane c.row.new.board m c.self.invariant.ready at leads in
     ap (λ n. world_with w.profile w.groups w.paged_views c.row.new.board (slice_set w.lanes n c.row.new.lane)) c.i.view_is
     ∙ row ∙ ap (λ (x : World). go_all x (replicate c.row.result c.args.i)) c.self.view_is
+
+pub returns-clause-count : goal.returns-clause-count
+returns-clause-count c =
+    let w : World = world_of c.self.inside in
+    let l : Lane = c.index_mut.result.now in
+    let at : l ≡ slice_index_or c.self.inside.lanes.items c.args.i l = grind (arith, common_steps) in
+    let m : may w.board.rules w.board.state c.args.i ≡ true = subst (λ (x : World). may x.board.rules x.board.state c.args.i ≡ true) (sym c.self.view_is) c.requires.may in
+    let has : RowHas w.profile w.paged_views w.board l c.args.limit c.row.result =
+    subst (λ (vs : List PagedView). RowHas w.profile vs w.board l c.args.limit c.row.result) c.deref-2.ensures.value c.row.ensures.count in
+    count-at w c.args.i c.row.result c.args.limit l m c.self.invariant.ready at has
+    ∙ ap (λ (x : World). row_count x c.args.i c.args.limit) c.self.view_is
+    ∙ ap (λ (q : Phase). row_count c.args.self.now c.args.i (row_limit q c.args.limit)) (sym c.requires.running)
