@@ -8,6 +8,8 @@ ghost use Rattle.std.specs.Prelude.{◌≡◌, ◌≤◌, ◌<◌, ◌+◌, ◌-
 ghost use Rattle.view_file.specs.Named.{view_named};
 ghost use Rattle.guest_board.specs.declared.seen.Windows.{Windows};
 ghost use Rattle.gstage.specs.Stage.{IsFor};
+ghost use Rattle.fc_numbers.specs.Spans.{text_size};
+ghost use Rattle.view_store.specs.Paged.{window_of};
 ghost use Rattle.rv_step.specs.Kept.{KeepsText};
 ghost use Rattle.guest_board.specs.Board.{may, name_of};
 ghost use Rattle.guest_board.specs.Seen.{trapped_at};
@@ -213,18 +215,19 @@ pub fn step_once(board: &mut Board, views: &Views, stages: &[GTable], lane: &mut
     }
 }
 
-/// One more window, in front, where the next steps look first; of four the oldest goes.
+/// Takes the window of a line, in front, where the next steps look first; of four the oldest goes. The window is written
+/// where it stays.
 #[tactic(auto, using(crate::proofs::Newest::newest_of_four, crate::proofs::Newest::newest_of_few))]
-fn hold(held: &mut ArrayVec<Window, 4>, window: Window)
-    ensures { held.new.items ≡ with_newest held.old.items window }
+fn hold(view: &View, line: u32, held: &mut ArrayVec<Window, 4>)
+    requires { 64 * line < text_size view.now.groups.text }
+    ensures { held.new.items ≡ with_newest held.old.items (window_of view.now line) }
 {
-    if held.is_full() {
-        let windows = held.as_mut_slice();
-        windows.rotate_right(1);
-        windows[0] = window;
-    } else {
-        held.insert(0, window);
+    if !held.is_full() {
+        held.push(Window::default());
     }
+    let windows = held.as_mut_slice();
+    windows.rotate_right(1);
+    view.read_line(line, &mut windows[0]);
 }
 
 /// Takes the window of the line that the lane wants, of its view as it is.
@@ -239,7 +242,7 @@ pub fn fill(view: &View, lane: &mut Lane)
 {
     match &lane.phase {
         Phase::Wants(line) => {
-            hold(&mut lane.windows.held, view.window(*line));
+            hold(view, *line, &mut lane.windows.held);
             lane.phase = Phase::Running;
         }
         _ => unreachable!(),

@@ -184,15 +184,15 @@ pub(crate) fn mask(
     Ok(pages)
 }
 
-/// A line of the pages, and the halfword behind it where text goes on there; else 0.
-pub(crate) fn copy_line(pages: &[u16], line: u32, goes_on: bool) -> Window
+/// Copies a line of the pages into the window, and the halfword behind it where text goes on there; else 0.
+pub(crate) fn copy_line(pages: &[u16], line: u32, goes_on: bool, window: &mut Window)
     requires inside { 32 * line + 32 ≤ length pages.now }
     requires more { goes_on ≡ true → 32 * line + 32 < length pages.now }
-    ensures { result ≡ record { line = line; halves = take 32 (drop (32 * line) pages.now) ++ (if goes_on then slice_index pages.now (32 * line + 32) else 0) ∷ [] } }
+    ensures { window.new ≡ record { line = line; halves = take 32 (drop (32 * line) pages.now) ++ (if goes_on then slice_index pages.now (32 * line + 32) else 0) ∷ [] } }
 {
     let first = 32 * line as usize;
     let behind = if goes_on { pages[first + 32] } else { 0 };
-    let mut halves = [behind; 33];
-    halves[..32].copy_from_slice(&pages[first..first + 32]);
-    Window { line, halves }
+    window.line = line;
+    window.halves = [behind; 33];
+    window.halves[..32].copy_from_slice(&pages[first..first + 32]);
 }

@@ -87,15 +87,16 @@ impl View {
         self.number
     }
 
-    /// Line `line` of the pages as they are, and the halfword behind it: 0 where the line's range of text ends.
+    /// Writes line `line` of the pages as they are into the window, and the halfword behind it: 0 where the line's range of
+    /// text ends.
     #[tactic(auto, unfolding(crate::specs::Paged::window_of))]
-    pub fn window(&self, line: u32) -> Window
+    pub fn read_line(&self, line: u32, window: &mut Window)
         requires { 64 * line < text_size self.now.groups.text }
-        ensures { result ≡ window_of self.now line }
+        ensures { window.new ≡ window_of self.now line }
     {
         let from = LINE * line as u64;
         let end = end_of(self.table.text(), from);
-        copy_line(&self.pages, line, from + LINE < end)
+        copy_line(&self.pages, line, from + LINE < end, window);
     }
 
     /// The mask, halfword by halfword.

@@ -11,8 +11,7 @@ returns-clause-kept c =
     let p = c.args.view.now in
     let l : Lane = c.args.lane.now in
     let after : Lane = record { vcpu = c.args.lane.now.vcpu; windows = record { view = c.args.lane.now.windows.view; held = c.hold.new.held; cleared = c.args.lane.now.windows.cleared }; phase = Running } in
-    let held : c.hold.new.held.items ≡ with_newest c.args.lane.now.windows.held.items (Rattle.view_store.specs.Paged.window_of c.args.view.now c.in-Wants.line) =
-    c.hold.ensures ∙ ap (λ w. with_newest c.args.lane.now.windows.held.items w) c.window.ensures in
+    let held : c.hold.new.held.items ≡ with_newest c.args.lane.now.windows.held.items (Rattle.view_store.specs.Paged.window_of c.args.view.now c.in-Wants.line) = c.hold.ensures in
     let filled : after ≡ after_fill c.args.view.now c.in-Wants.line c.args.lane.now =
     λ x. record { vcpu = c.args.lane.now.vcpu; windows = record { view = c.args.lane.now.windows.view; held = record { items = held x }; cleared = c.args.lane.now.windows.cleared }; phase = Running } in
     let exact : after ≡ fill_row c.args.view.now c.args.lane.now c.args.lane.now.phase = filled ∙ ap (λ (q : Phase). fill_row c.args.view.now c.args.lane.now q) (sym c.in-Wants.is) in

@@ -1,13 +1,12 @@
-use Rattle.std.proofs.Common.{◌≡◌, ◌+◌, ◌*◌, ◌<◌, ◌≤◌, true, List, [], ◌∷◌, ◌++◌, length, drop, take, arith, sym, ◌∙◌, ap, subst, ℕ}
-use Rattle.std.specs.Prelude.{if◌then◌else◌, nat_lt, slice_index}
+use Rattle.std.proofs.Common.{◌≡◌, ◌+◌, ◌*◌, ◌<◌, ◌≤◌, length, arith, sym, ◌∙◌, ap, subst}
 use Rattle.std.proofs.lemmas.Bool.Decides.{nat_tests}
 use Rattle.fc_numbers.specs.Spans.{end_in, text_size}
-use Rattle.view_store.specs.Paged.{PagedView, mask_of, masked, window_of}
+use Rattle.view_store.specs.Paged.{PagedView, mask_of}
 use Rattle.view_store.specs.PagedIn.{paged_of}
 use Rattle.view_store.proofs.PageLemmas.{line-within, mask_same, window-of}
-use Rattle.view_store.proofs.view.View.window.Goals as goal
+use Rattle.view_store.proofs.view.View.read_line.Goals as goal
 
-line_in : (c : goal.After-deref) → (32 * c.args.line + 32 ≤ length c.deref.result.now) × (64 * c.args.line + 64 < end_in c.self.inside.table.text (64 * c.args.line) → 32 * c.args.line + 32 < length c.deref.result.now)
+line_in : (c : goal.After-copy_line-arg-1) → (32 * c.args.line + 32 ≤ length c.deref.result.now) × (64 * c.args.line + 64 < end_in c.self.inside.table.text (64 * c.args.line) → 32 * c.args.line + 32 < length c.deref.result.now)
 line_in c =
     let i = c.self.invariant in
     let within : 64 * c.args.line < text_size c.self.inside.table.text = subst (λ (p : PagedView). 64 * c.args.line < text_size p.groups.text) (sym c.self.view_is) c.requires in
